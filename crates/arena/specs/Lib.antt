@@ -1,0 +1,4 @@
+pub mod Links
+pub mod Make
+pub mod Room
+pub mod Tree

@@ -1,0 +1,12 @@
+pub mod Agree
+pub mod Find
+pub mod Flat
+pub mod InNone
+pub mod InWords
+pub mod Known
+pub mod Members
+pub mod Ordered
+pub mod Placed
+pub mod Rows
+pub mod SetWords
+pub mod Tags

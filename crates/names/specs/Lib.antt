@@ -1,0 +1,11 @@
+pub mod Flat
+pub mod Numbers
+pub mod Order
+pub mod Put
+pub mod Sets
+pub mod Space
+pub mod Table
+pub mod Tag
+pub mod Tags
+pub mod Text
+pub mod Words

@@ -1,0 +1,16 @@
+pub mod Fn
+pub mod Rank
+pub mod Ord
+pub mod Natural
+pub mod Round
+pub mod Anc
+pub mod Kids
+pub mod Stores
+pub mod Pigeon
+pub mod Check
+pub mod Near
+pub mod Depth
+pub mod Count
+pub mod Says
+pub mod Nearest
+pub mod Path

@@ -1,0 +1,1 @@
+// Order, children and counting: pure definitions and their laws, in specs/. There is no code.
