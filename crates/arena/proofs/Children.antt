@@ -18,8 +18,8 @@ use Rattle.theory.specs.Pigeon.{Once, Within, pigeon, kids-walk}
 use Rattle.theory.specs.Stores as stores
 use Rattle.lent.specs.Mem.{NODES, slots, inside, field, putField, PARENT, PREV, NEXT, FIRST, LAST}
 use Rattle.arena.specs.Links.{appended, detached, inserted, spliced, moved}
-use Rattle.arena.specs.Tree as tree
-use Rattle.arena.specs.Tree.{children}
+use Rattle.lent.specs.Tree as tree
+use Rattle.lent.specs.Tree.{children}
 use Rattle.arena.proofs.Laws.{detached-none, moved-none, moved-some}
 use Rattle.arena.proofs.Stores.{append-links, detach-links, insert-links, splice-links}
 use Rattle.arena.proofs.Lengths.{slots-appended, slots-detached, slots-inserted, slots-moved}

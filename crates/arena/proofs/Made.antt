@@ -15,7 +15,7 @@ use Rattle.theory.specs.Kids.{Fresh, created}
 use Rattle.lent.specs.Mem.{NODES, slots, inside, field, putField, KIND, PARENT, PREV, NEXT, FIRST, LAST, TIE, SPACE, NAME, MARK, START, COUNT, PIECE, END, DOCUMENT, ELEMENT, TEXT, COMMENT, CONTENTS}
 use Rattle.lent.proofs.Kit.{reads, length-store}
 use Rattle.arena.specs.Make.{bareLinks, bareRest, bare, tagged, plain, tied, document, comment, text}
-use Rattle.arena.specs.Tree as tree
+use Rattle.lent.specs.Tree as tree
 use Rattle.arena.specs.declared.make.Tag.{Tag}
 use Rattle.arena.proofs.Lengths.{slots-same}
 use Rattle.arena.proofs.Children.{Forest}

@@ -20,7 +20,7 @@ use Rattle.lent.specs.Mem.{NODES, inside, field, putField, link, PARENT, PREV, 
 use Rattle.lent.proofs.Kit as kit
 use Rattle.lent.proofs.Kit.{links, reads}
 use Rattle.arena.specs.Links.{appended, detached, unlinked, inserted, reparented, spliced, moved}
-use Rattle.arena.specs.Tree as tree
+use Rattle.lent.specs.Tree as tree
 use Rattle.arena.proofs.Laws.{detached-some, reparented-none, moved-some, moved-none}
 
 -- ---- append

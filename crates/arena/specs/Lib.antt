@@ -1,4 +1,3 @@
 pub mod Links
 pub mod Make
 pub mod Room
-pub mod Tree

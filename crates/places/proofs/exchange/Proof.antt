@@ -1,0 +1,52 @@
+-- `places::exchange` meets its contract.
+-- Assumes nothing.
+use Prim.Native.Nat.{ℕ, _≤_, _<_, _-_, _+_}
+use mathlib.Core.Path.{_≡_, refl, ap, sym, _∙_}
+use native.Mathlib.Omega.{arith}
+use lib.ListN.{length}
+use Rattle.places.specs.Places.{Places, placesOf, placeOf}
+use Rattle.places.proofs.Laws.{place-lt, renamed-none, renamed-at, after-none, after-at, exchanged-none, exchanged-at}
+use borrow.Author.Needs.{needs}
+use Rattle.places.proofs.exchange.Statement.{statement}
+use Rattle.places.proofs.exchange.Tie as tie
+
+find-requires : tie.Need-find-requires
+find-requires c κs = search needs
+
+enum-told : tie.Need-enum-told
+enum-told c = search needs
+
+enum-known-j : tie.Need-enum-known-j
+enum-known-j c = search needs
+
+remove-at-requires : tie.Need-remove-at-requires
+remove-at-requires c κs = let lt = place-lt _ _ _ _ (omega arith) (sym (c .before .before .before .before .find .ensures) ∙ c .before .before .j .given .1) in (omega arith, omega arith)
+
+insert-after-requires : tie.Need-insert-after-requires
+insert-after-requires c κs = let lt = place-lt _ _ _ _ (omega arith) (sym (c .before .before .before .before .before .before .before .before .find .ensures) ∙ c .before .before .before .before .before .before .j .given .1) in omega arith
+
+same-length : tie.Need-same-length
+same-length c = search needs
+
+returns : tie.Need-returns
+returns c = (omega arith, exchanged-none _ _ _ _ (sym (c .before .before .find .ensures) ∙ c .enum-told .given .1))
+
+same-length-2 : tie.Need-same-length-2
+same-length-2 c = search needs
+
+returns-2 : tie.Need-returns-2
+returns-2 c = let lt = place-lt _ _ _ _ (omega arith) (sym (c .before .before .before .before .before .before .before .before .before .before .before .find .ensures) ∙ c .before .before .before .before .before .before .before .before .before .j .given .1) in (omega arith, c .before .before .insert-after .ensures .1 ∙ exchanged-at _ _ _ _ _ _ (sym (c .before .before .before .before .before .before .before .before .before .before .before .find .ensures) ∙ c .before .before .before .before .before .before .before .before .before .j .given .1) (c .before .before .before .before .before .before .remove-at .ensures .1))
+
+pub exchange-spec : {M : Type 1} → statement M
+exchange-spec =
+    tie.close
+    (tie.spec
+    find-requires
+    enum-told
+    enum-known-j
+    remove-at-requires
+    insert-after-requires
+    same-length
+    returns
+    same-length-2
+    returns-2)
