@@ -1,11 +1,10 @@
+-- `state::Core::with_foster` meets its contract.
+-- Assumes nothing.
 use borrow.Author.Needs.{needs}
 use Rattle.state.specs.Fields.{setFoster, setFlags}
 use Rattle.state.proofs.Core.with_foster.Statement.{statement}
 use Rattle.state.proofs.Core.with_foster.Tie as tie
-use Rattle.state.proofs.Core.with_foster.Reads as reads
-use Rattle.state.proofs.Core.with_foster.Lts as lts
 
--- src/lib.rt:117:5
 returns : tie.Need-returns
 unfolding setFoster setFlags
 returns c = search needs

@@ -1,11 +1,10 @@
+-- `state::Core::with_head` meets its contract.
+-- Assumes nothing.
 use borrow.Author.Needs.{needs}
 use Rattle.state.specs.Fields.{setHead, setFlags}
 use Rattle.state.proofs.Core.with_head.Statement.{statement}
 use Rattle.state.proofs.Core.with_head.Tie as tie
-use Rattle.state.proofs.Core.with_head.Reads as reads
-use Rattle.state.proofs.Core.with_head.Lts as lts
 
--- src/lib.rt:124:5
 returns : tie.Need-returns
 unfolding setHead setFlags
 returns c = search needs

@@ -1,11 +1,10 @@
+-- `state::Core::with_list` meets its contract.
+-- Assumes nothing.
 use borrow.Author.Needs.{needs}
 use Rattle.state.specs.Fields.{setList, setCounts}
 use Rattle.state.proofs.Core.with_list.Statement.{statement}
 use Rattle.state.proofs.Core.with_list.Tie as tie
-use Rattle.state.proofs.Core.with_list.Reads as reads
-use Rattle.state.proofs.Core.with_list.Lts as lts
 
--- src/lib.rt:103:5
 returns : tie.Need-returns
 unfolding setList setCounts
 returns c = search needs

@@ -1,11 +1,10 @@
+-- `state::Core::with_modes` meets its contract.
+-- Assumes nothing.
 use borrow.Author.Needs.{needs}
 use Rattle.state.specs.Fields.{setModes, setCounts}
 use Rattle.state.proofs.Core.with_modes.Statement.{statement}
 use Rattle.state.proofs.Core.with_modes.Tie as tie
-use Rattle.state.proofs.Core.with_modes.Reads as reads
-use Rattle.state.proofs.Core.with_modes.Lts as lts
 
--- src/lib.rt:110:5
 returns : tie.Need-returns
 unfolding setModes setCounts
 returns c = search needs

@@ -1,11 +1,10 @@
+-- `state::Core::with_nodes` meets its contract.
+-- Assumes nothing.
 use borrow.Author.Needs.{needs}
 use Rattle.state.specs.Fields.{setNodes, setCounts}
 use Rattle.state.proofs.Core.with_nodes.Statement.{statement}
 use Rattle.state.proofs.Core.with_nodes.Tie as tie
-use Rattle.state.proofs.Core.with_nodes.Reads as reads
-use Rattle.state.proofs.Core.with_nodes.Lts as lts
 
--- src/lib.rt:82:5
 returns : tie.Need-returns
 unfolding setNodes setCounts
 returns c = search needs

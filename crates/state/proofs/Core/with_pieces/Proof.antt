@@ -1,11 +1,10 @@
+-- `state::Core::with_pieces` meets its contract.
+-- Assumes nothing.
 use borrow.Author.Needs.{needs}
 use Rattle.state.specs.Fields.{setPieces, setCounts}
 use Rattle.state.proofs.Core.with_pieces.Statement.{statement}
 use Rattle.state.proofs.Core.with_pieces.Tie as tie
-use Rattle.state.proofs.Core.with_pieces.Reads as reads
-use Rattle.state.proofs.Core.with_pieces.Lts as lts
 
--- src/lib.rt:89:5
 returns : tie.Need-returns
 unfolding setPieces setCounts
 returns c = search needs

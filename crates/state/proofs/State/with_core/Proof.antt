@@ -1,11 +1,10 @@
+-- `state::State::with_core` meets its contract.
+-- Assumes nothing.
 use borrow.Author.Needs.{needs}
 use Rattle.state.specs.Fields.{stateOf}
 use Rattle.state.proofs.State.with_core.Statement.{statement}
 use Rattle.state.proofs.State.with_core.Tie as tie
-use Rattle.state.proofs.State.with_core.Reads as reads
-use Rattle.state.proofs.State.with_core.Lts as lts
 
--- src/lib.rt:145:5
 returns : tie.Need-returns
 unfolding stateOf
 returns c = search needs
