@@ -3,3 +3,5 @@ pub mod Place
 pub mod Pairs
 pub mod Insertion
 pub mod Small
+pub mod Step
+pub mod Run

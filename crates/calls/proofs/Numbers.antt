@@ -1,0 +1,68 @@
+-- The call that each number stands for.
+-- Assumes nothing.
+use Prim.Native.Nat.{ℕ, _<_, _≤_}
+use mathlib.Core.Path.{_≡_, refl, sym, _∙_}
+use mathlib.Core.List.{List}
+use borrow.Author.Tests.{eq-eqb, ne-eqb, lt-ltb, le-ltb}
+use Rattle.state.specs.Full.{Full, Result, refused}
+use Rattle.standard.specs.Insertion.{inserted-element, inserted-text, inserted-comment}
+use Rattle.standard.specs.Small.{marked, cleared, popped, fostered, headed, moded, unmoded}
+use Rattle.standard.specs.Step.{asked, later, lowStep, highStep, step}
+
+module _ (s : List ℕ) (call a b c from count : ℕ) (f : Full) {x : Result} where
+  pub low-1 : call ≡ 1 → x ≡ inserted-element s f a b c from count → x ≡ lowStep s (asked call a b c from count) f
+  unfolding lowStep
+  low-1 e y = rw e y
+
+  pub low-2 : call ≡ 2 → x ≡ inserted-text f a → x ≡ lowStep s (asked call a b c from count) f
+  unfolding lowStep
+  low-2 e y = rw e y
+
+  pub low-3 : call ≡ 3 → x ≡ inserted-comment f a b → x ≡ lowStep s (asked call a b c from count) f
+  unfolding lowStep
+  low-3 e y = rw e y
+
+  pub low-5 : call ≡ 5 → x ≡ marked f → x ≡ lowStep s (asked call a b c from count) f
+  unfolding lowStep
+  low-5 e y = rw e y
+
+  pub low-6 : call ≡ 6 → x ≡ cleared f → x ≡ lowStep s (asked call a b c from count) f
+  unfolding lowStep
+  low-6 e y = rw e y
+
+  pub high-14 : call ≡ 14 → x ≡ popped f → x ≡ highStep (asked call a b c from count) f
+  unfolding highStep
+  high-14 e y = rw e y
+
+  pub high-15 : call ≡ 15 → x ≡ fostered f a → x ≡ highStep (asked call a b c from count) f
+  unfolding highStep
+  high-15 e y = rw e y
+
+  pub high-16 : call ≡ 16 → x ≡ moded f a → x ≡ highStep (asked call a b c from count) f
+  unfolding highStep
+  high-16 e y = rw e y
+
+  pub high-17 : call ≡ 17 → x ≡ unmoded f → x ≡ highStep (asked call a b c from count) f
+  unfolding highStep
+  high-17 e y = rw e y
+
+  pub high-18 : call ≡ 18 → x ≡ headed f a → x ≡ highStep (asked call a b c from count) f
+  unfolding highStep
+  high-18 e y = rw e y
+
+  pub step-low : call < 14 → x ≡ lowStep s (asked call a b c from count) f → x ≡ step s (asked call a b c from count) f
+  unfolding step
+  step-low h y = simp (lt-ltb _ _ h) y
+
+  pub step-high : 14 ≤ call → x ≡ highStep (asked call a b c from count) f → x ≡ step s (asked call a b c from count) f
+  unfolding step
+  step-high h y = simp (le-ltb _ _ h) y
+
+module _ (s : List ℕ) (call a b c from count : ℕ) (f : Full) where
+  pub low-rest : (call ≡ 1 → ⊥) → (call ≡ 2 → ⊥) → (call ≡ 3 → ⊥) → (call ≡ 5 → ⊥) → (call ≡ 6 → ⊥) → refused 2 f ≡ lowStep s (asked call a b c from count) f
+  unfolding lowStep later
+  low-rest h1 h2 h3 h5 h6 = simp (ne-eqb _ _ h1, ne-eqb _ _ h2, ne-eqb _ _ h3, ne-eqb _ _ h5, ne-eqb _ _ h6)
+
+  pub high-rest : (call ≡ 14 → ⊥) → (call ≡ 15 → ⊥) → (call ≡ 16 → ⊥) → (call ≡ 17 → ⊥) → (call ≡ 18 → ⊥) → refused 2 f ≡ highStep (asked call a b c from count) f
+  unfolding highStep later
+  high-rest h1 h2 h3 h5 h6 = simp (ne-eqb _ _ h1, ne-eqb _ _ h2, ne-eqb _ _ h3, ne-eqb _ _ h5, ne-eqb _ _ h6)

@@ -1,0 +1,104 @@
+// A call by its number, on a sound state. Each arm lends what its call touches, and no more.
+ghost use mathlib.Core.Path.{_≡_};
+ghost use mathlib.Core.List.{List};
+ghost use Prim.Native.Nat.{ℕ, _≤_};
+ghost use lib.ListN.{length};
+ghost use Rattle.state.specs.declared.Context.{Context};
+ghost use Rattle.state.specs.Full.{full, result};
+ghost use Rattle.state.specs.Ready.{Ready};
+ghost use Rattle.standard.specs.Step.{asked, lowStep, highStep, step};
+use builder::insertion;
+use builder::small;
+use state::Core;
+use state::Done;
+
+// Calls 1 to 13.
+fn low(
+    h: &mut [u16],
+    core: Core,
+    nodes: &mut [u8],
+    list: &mut [u16],
+    pieces: &mut [u8],
+    pairs: &mut [u8],
+    input: &[u8],
+    call: u16,
+    a: u16,
+    b: u16,
+    c: u16,
+    from: usize,
+    count: u16,
+) -> Done
+    requires { ⌜ Ready (now h) (now list) core ⌝ }
+    ensures { λ r. ⌜ ((m : List ℕ) (x : Context) → result (r .answer) (full (now (h .exit)) (r .core) x (now (nodes .exit)) (now (list .exit)) m (now (pieces .exit)) (now (pairs .exit))) ≡ lowStep (now (input .entry)) (asked call a b c from count) (full (now (h .entry)) core x (now (nodes .entry)) (now (list .entry)) m (now (pieces .entry)) (now (pairs .entry)))) ⌝ }
+{
+    match call {
+        1 => insertion::element(h, core, nodes, pairs, input, a, b, c, from, count),
+        2 => insertion::text(h, core, nodes, pieces, a),
+        3 => insertion::comment(h, core, nodes, a, b),
+        5 => small::marker(core, list),
+        6 => small::clear(core, list),
+        _ => Done {
+            answer: 2,
+            core: core,
+        },
+    }
+}
+
+// Calls 14 to 18.
+fn high(h: &mut [u16], core: Core, modes: &mut [u16], call: u16, a: u16) -> Done
+    requires { ⌜ core .depth ≤ length (now h) ⌝ }
+    requires { ⌜ core .counts .modes ≤ length (now modes) ⌝ }
+    ensures { λ r. ⌜ ((b c from count : ℕ) (n l p q : List ℕ) (x : Context) → result (r .answer) (full (now (h .exit)) (r .core) x n l (now (modes .exit)) p q) ≡ highStep (asked call a b c from count) (full (now (h .entry)) core x n l (now (modes .entry)) p q)) ⌝ }
+{
+    match call {
+        14 => small::pop(h, core),
+        15 => small::foster(core, a),
+        16 => small::push_mode(core, modes, a),
+        17 => small::pop_mode(core, modes),
+        18 => small::head(core, a),
+        _ => Done {
+            answer: 2,
+            core: core,
+        },
+    }
+}
+
+pub fn call(
+    h: &mut [u16],
+    core: Core,
+    nodes: &mut [u8],
+    list: &mut [u16],
+    modes: &mut [u16],
+    pieces: &mut [u8],
+    pairs: &mut [u8],
+    input: &[u8],
+    call: u16,
+    a: u16,
+    b: u16,
+    c: u16,
+    from: usize,
+    count: u16,
+) -> Done
+    requires { ⌜ Ready (now h) (now list) core ⌝ }
+    requires { ⌜ core .counts .modes ≤ length (now modes) ⌝ }
+    ensures { λ r. ⌜ ((x : Context) → result (r .answer) (full (now (h .exit)) (r .core) x (now (nodes .exit)) (now (list .exit)) (now (modes .exit)) (now (pieces .exit)) (now (pairs .exit))) ≡ step (now (input .entry)) (asked call a b c from count) (full (now (h .entry)) core x (now (nodes .entry)) (now (list .entry)) (now (modes .entry)) (now (pieces .entry)) (now (pairs .entry)))) ⌝ }
+{
+    if call < 14 {
+        return low(
+            h,
+            core,
+            nodes,
+            list,
+            pieces,
+            pairs,
+            input,
+            call,
+            a,
+            b,
+            c,
+            from,
+            count,
+        );
+    }
+    high(h, core, modes, call, a)
+}

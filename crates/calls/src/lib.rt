@@ -1,0 +1,2 @@
+// Calls by their number, runs of records, and single calls on a state that is checked first.
+pub mod dispatch;

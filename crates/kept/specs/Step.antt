@@ -1,0 +1,112 @@
+-- Every call by its number, and so every run, keeps a sound state sound. What the calls rely on holds in a sound state.
+-- Assumes nothing.
+use Prim.Native.Nat.{ℕ, zero, suc, _+_, _-_, _<_, _≤_}
+use mathlib.Core.Path.{_≡_, refl, sym, ap, _∙_}
+use mathlib.Core.Bool.{Bool, true, false, cond}
+use mathlib.Core.List.{List, _++_}
+use native.Mathlib.Omega.{arith}
+use lib.ListN.{length, take, drop, length-append, take-append-drop}
+use lib.Dec.{eqb, ltb}
+use Rattle.places.specs.Places.{placesOf}
+use Rattle.places.proofs.Laws.{of-whole}
+use Rattle.records.specs.declared.Item.{Item}
+use Rattle.records.specs.declared.Item.the-variants as is
+use Rattle.records.specs.Record.{itemAt}
+use Rattle.state.specs.declared.Core.{Core}
+use Rattle.state.specs.declared.Context.{Context}
+use Rattle.state.specs.Full.{Full, Result, full, result, refused}
+use Rattle.state.specs.Ready.{Ready}
+use Rattle.sound.specs.State.{SoundFull}
+use Rattle.standard.specs.Step.{Asked, asked, later, lowStep, highStep, step}
+use Rattle.standard.specs.Run.{Ran, ran, unlessRefused, onItem, runFor, runFrom, runOf, onSingle, single}
+use Rattle.kept.specs.Small.{marked-sound, cleared-sound, popped-sound, fostered-sound, headed-sound, moded-sound, unmoded-sound}
+use Rattle.kept.specs.Insert.{inserted-comment-sound, inserted-text-sound}
+use Rattle.kept.specs.Element.{inserted-element-sound}
+
+-- either call leaves a sound state
+both : (b : Bool) (x y : Result) → SoundFull (x .after) → SoundFull (y .after) → SoundFull (cond b x y .after)
+both true x y p q = p
+both false x y p q = q
+
+module _ (f : Full) (ok : SoundFull f) where
+  later-sound : SoundFull (later f .after)
+  unfolding later
+  later-sound = ok
+
+  low-sound : (s : List ℕ) (r : Asked) → SoundFull (lowStep s r f .after)
+  unfolding lowStep
+  low-sound s r =
+      both (eqb (r .call) 1) _ _ (inserted-element-sound f ok s (r .a) (r .b) (r .c) (r .from) (r .count))
+      (both (eqb (r .call) 2) _ _ (inserted-text-sound f ok (r .a))
+      (both (eqb (r .call) 3) _ _ (inserted-comment-sound f ok (r .a) (r .b))
+      (both (eqb (r .call) 5) _ _ (marked-sound f ok)
+      (both (eqb (r .call) 6) _ _ (cleared-sound f ok) later-sound))))
+
+  high-sound : (r : Asked) → SoundFull (highStep r f .after)
+  unfolding highStep
+  high-sound r =
+      both (eqb (r .call) 14) _ _ (popped-sound f ok)
+      (both (eqb (r .call) 15) _ _ (fostered-sound f ok (r .a))
+      (both (eqb (r .call) 16) _ _ (moded-sound f ok (r .a))
+      (both (eqb (r .call) 17) _ _ (unmoded-sound f ok)
+      (both (eqb (r .call) 18) _ _ (headed-sound f ok (r .a)) later-sound))))
+
+  pub step-sound : (s : List ℕ) (r : Asked) → SoundFull (step s r f .after)
+  unfolding step
+  step-sound s r = both (ltb (r .call) 14) _ _ (low-sound s r) (high-sound r)
+
+  pub single-sound : (s : List ℕ) → SoundFull (single s f .after)
+  unfolding single onSingle
+  single-sound s = by (itemAt s 0)
+    where
+      by : (i : Item) → SoundFull (onSingle i s f .after)
+      by (is.Call k a b c from count next) = step-sound s (asked k a b c from count)
+      by is.Unknown = ok
+      by is.Bad = ok
+
+-- ---- runs
+
+pub run-sound : (k : ℕ) (s : List ℕ) (i n : ℕ) (f : Full) → SoundFull f → SoundFull (runFor k s i n f .after)
+unfolding runFor onItem unlessRefused
+run-sound zero s i n f ok = ok
+run-sound (suc k) s i n f ok = by (ltb i (length s)) (itemAt s i) (λ next g good. run-sound k s next (n + 1) g good)
+  where
+    go : (next : ℕ) (r : Result) → SoundFull (r .after) → ((g : Full) → SoundFull g → SoundFull (runFor k s next (n + 1) g .after)) → (b : Bool)
+        → SoundFull (cond b (runFor k s next (n + 1) (r .after)) (ran (r .answer) n (r .after)) .after)
+    go next r good more true = more (r .after) good
+    go next r good more false = good
+
+    item : (j : Item) → ((next : ℕ) (g : Full) → SoundFull g → SoundFull (runFor k s next (n + 1) g .after))
+        → SoundFull (onItem j n f (λ (x : Asked) (next : ℕ). unlessRefused (step s x f) n (runFor k s next (n + 1))) .after)
+    item (is.Call m a b c from count next) more =
+        let r = step s (asked m a b c from count) f in
+        go next r (step-sound f ok s (asked m a b c from count)) (more next) (eqb (r .answer) 0)
+    item is.Unknown more = ok
+    item is.Bad more = ok
+
+    by : (b : Bool) (j : Item) → ((next : ℕ) (g : Full) → SoundFull g → SoundFull (runFor k s next (n + 1) g .after))
+        → SoundFull (cond b (onItem j n f (λ (x : Asked) (next : ℕ). unlessRefused (step s x f) n (runFor k s next (n + 1)))) (ran 0 n f) .after)
+    by true j more = item j more
+    by false j more = ok
+
+pub runs-sound : (s : List ℕ) (f : Full) → SoundFull f → SoundFull (runOf s f .after)
+unfolding runOf runFrom
+runs-sound s f ok = run-sound (length s - 0) s 0 0 f ok
+
+-- ---- what the calls rely on
+
+module _ (h n l m p q : List ℕ) (c : Core) (x : Context) (ok : SoundFull (full h c x n l m p q)) where
+  pub sound-ready : Ready h l c
+  unfolding placesOf
+  sound-ready =
+      let t = ok .sound in
+      record {
+        some = t .tree .stack .some;
+        deep = t .places .stack .0;
+        places = sym (ap length (take-append-drop (c .depth) h)) ∙ length-append (take (c .depth) h) (drop (c .depth) h) ∙ ok .places;
+        list = of-whole l (c .counts .list) (ok .list);
+        pairs = t .sizes .pairs .0;
+      }
+
+  pub sound-modes : c .counts .modes ≤ length m
+  sound-modes = of-whole m (c .counts .modes) (ok .modes)

@@ -1,0 +1,47 @@
+-- A call by its number, as a record asks for it.
+-- Assumes nothing.
+use Prim.Native.Nat.{ℕ}
+use mathlib.Core.Bool.{cond}
+use mathlib.Core.List.{List}
+use lib.Dec.{eqb, ltb}
+use Rattle.state.specs.Full.{Full, Result, refused}
+use Rattle.standard.specs.Insertion.{inserted-element, inserted-text, inserted-comment}
+use Rattle.standard.specs.Small.{marked, cleared, popped, fostered, headed, moded, unmoded}
+
+-- the call's number, its arguments, and where in the record its pairs begin and how many they are
+pub record Asked : Type 0 where
+  pub call : ℕ
+  pub a : ℕ
+  pub b : ℕ
+  pub c : ℕ
+  pub from : ℕ
+  pub count : ℕ
+
+abbrev pub asked : ℕ → ℕ → ℕ → ℕ → ℕ → ℕ → Asked
+asked call a b c from count = record { call = call; a = a; b = b; c = c; from = from; count = count }
+
+-- calls 4 and 7 to 13 are not taken yet
+unfoldable pub later : Full → Result
+later f = refused 2 f
+
+-- s is the input that holds the record
+unfoldable pub lowStep : List ℕ → Asked → Full → Result
+lowStep s r f =
+    cond (eqb (r .call) 1) (inserted-element s f (r .a) (r .b) (r .c) (r .from) (r .count))
+    (cond (eqb (r .call) 2) (inserted-text f (r .a))
+    (cond (eqb (r .call) 3) (inserted-comment f (r .a) (r .b))
+    (cond (eqb (r .call) 5) (marked f)
+    (cond (eqb (r .call) 6) (cleared f)
+    (later f)))))
+
+unfoldable pub highStep : Asked → Full → Result
+highStep r f =
+    cond (eqb (r .call) 14) (popped f)
+    (cond (eqb (r .call) 15) (fostered f (r .a))
+    (cond (eqb (r .call) 16) (moded f (r .a))
+    (cond (eqb (r .call) 17) (unmoded f)
+    (cond (eqb (r .call) 18) (headed f (r .a))
+    (later f)))))
+
+unfoldable pub step : List ℕ → Asked → Full → Result
+step s r f = cond (ltb (r .call) 14) (lowStep s r f) (highStep r f)
