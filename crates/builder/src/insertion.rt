@@ -149,7 +149,7 @@ fn bad_tag(ns: u16, name: u16, flags: u16) -> bool
     ns == Namespace::HTML && name == tag::HTML
 }
 
-fn is_markable(ns: u16, name: u16) -> bool
+pub fn is_markable(ns: u16, name: u16) -> bool
     ensures { λ r. ⌜ r ≡ isMarkable ns name ⌝ }
 {
     ns == Namespace::MATHML && name == tag::ANNOTATION_XML

@@ -1,1 +1,5 @@
 pub mod Numbers
+pub mod RunLaws
+pub mod EdgeLaws
+pub mod Complete
+pub mod BeginLaws

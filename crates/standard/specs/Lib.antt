@@ -5,3 +5,4 @@ pub mod Insertion
 pub mod Small
 pub mod Step
 pub mod Run
+pub mod Begin

@@ -1,53 +1,40 @@
+-- `calls::dispatch::call` meets its contract.
+-- Assumes nothing.
 use Rattle.calls.proofs.Numbers as number
 use borrow.Author.Needs.{needs}
 use Rattle.calls.proofs.dispatch.call.Statement.{statement}
 use Rattle.calls.proofs.dispatch.call.Tie as tie
-use Rattle.calls.proofs.dispatch.call.Reads as reads
-use Rattle.calls.proofs.dispatch.call.Lts as lts
-use Rattle.calls.proofs.dispatch.high.Reads as high-reads
-use Rattle.calls.proofs.dispatch.low.Reads as low-reads
 
--- src/dispatch.rt:87:9
 low-requires : tie.Need-low-requires
 low-requires c κs = search needs
 
--- src/dispatch.rt:87:9
 same-length : tie.Need-same-length
 same-length c = search needs
 
--- src/dispatch.rt:87:9
 same-length-2 : tie.Need-same-length-2
 same-length-2 c = search needs
 
--- src/dispatch.rt:87:9
 same-length-3 : tie.Need-same-length-3
 same-length-3 c = search needs
 
--- src/dispatch.rt:87:9
 same-length-4 : tie.Need-same-length-4
 same-length-4 c = search needs
 
--- src/dispatch.rt:87:9
 same-length-5 : tie.Need-same-length-5
 same-length-5 c = search needs
 
--- src/dispatch.rt:87:9
 returns : tie.Need-returns
 returns c = λ x. number.step-low _ _ _ _ _ _ _ _ ((c .before .before .before .before .before .before .before .before .before .before .before .before .before .before .before .before .if1) .taken) ((c .before .before .before .before .before .before .before .before .before .before .low) .ensures _ x)
 
--- src/dispatch.rt:103:5
 high-requires : tie.Need-high-requires
 high-requires c κs = search needs
 
--- src/dispatch.rt:66:1
 same-length-6 : tie.Need-same-length-6
 same-length-6 c = search needs
 
--- src/dispatch.rt:66:1
 same-length-7 : tie.Need-same-length-7
 same-length-7 c = search needs
 
--- src/dispatch.rt:66:1
 returns-2 : tie.Need-returns-2
 returns-2 c = λ x. number.step-high _ _ _ _ _ _ _ _ ((c .before .before .before .before .before .before .before .if1) .left) ((c .before .before .before .before .high) .ensures _ _ _ _ _ _ _ _ x)
 

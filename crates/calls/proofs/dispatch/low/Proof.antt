@@ -1,96 +1,70 @@
+-- `calls::dispatch::low` meets its contract.
+-- Assumes nothing.
 use Rattle.calls.proofs.Numbers as number
 use borrow.Author.Needs.{needs}
 use Rattle.calls.proofs.dispatch.low.Statement.{statement}
 use Rattle.calls.proofs.dispatch.low.Tie as tie
-use Rattle.calls.proofs.dispatch.low.Reads as reads
-use Rattle.calls.proofs.dispatch.low.Lts as lts
-use Rattle.builder.proofs.insertion.comment.Reads as comment-reads
-use Rattle.builder.proofs.insertion.element.Reads as element-reads
-use Rattle.builder.proofs.insertion.text.Reads as text-reads
-use Rattle.builder.proofs.small.clear.Reads as clear-reads
-use Rattle.builder.proofs.small.marker.Reads as marker-reads
 
--- src/dispatch.rt:35:14
 element-requires : tie.Need-element-requires
 element-requires c κs = search needs
 
--- src/dispatch.rt:36:14
 text-requires : tie.Need-text-requires
 text-requires c κs = search needs
 
--- src/dispatch.rt:37:14
 comment-requires : tie.Need-comment-requires
 comment-requires c κs = search needs
 
--- src/dispatch.rt:38:14
 marker-requires : tie.Need-marker-requires
 marker-requires c κs = search needs
 
--- src/dispatch.rt:39:14
 clear-requires : tie.Need-clear-requires
 clear-requires c κs = search needs
 
--- src/dispatch.rt:16:1
 same-length : tie.Need-same-length
 same-length c = search needs
 
--- src/dispatch.rt:16:1
 same-length-2 : tie.Need-same-length-2
 same-length-2 c = search needs
 
--- src/dispatch.rt:16:1
 same-length-3 : tie.Need-same-length-3
 same-length-3 c = search needs
 
--- src/dispatch.rt:16:1
 returns : tie.Need-returns
 returns c = λ m x. number.low-1 _ _ _ _ _ _ _ _ ((c .before .before .before .before .before .before .before .before .before .before .match) .keys1) ((c .before .before .before .before .before .before .element) .ensures _ m _ x)
 
--- src/dispatch.rt:16:1
 same-length-4 : tie.Need-same-length-4
 same-length-4 c = search needs
 
--- src/dispatch.rt:16:1
 same-length-5 : tie.Need-same-length-5
 same-length-5 c = search needs
 
--- src/dispatch.rt:16:1
 same-length-6 : tie.Need-same-length-6
 same-length-6 c = search needs
 
--- src/dispatch.rt:16:1
 returns-2 : tie.Need-returns-2
 returns-2 c = λ m x. number.low-2 _ _ _ _ _ _ _ _ ((c .before .before .before .before .before .before .before .before .match) .keys2) ((c .before .before .before .before .text) .ensures _ m _ x)
 
--- src/dispatch.rt:16:1
 same-length-7 : tie.Need-same-length-7
 same-length-7 c = search needs
 
--- src/dispatch.rt:16:1
 same-length-8 : tie.Need-same-length-8
 same-length-8 c = search needs
 
--- src/dispatch.rt:16:1
 returns-3 : tie.Need-returns-3
 returns-3 c = λ m x. number.low-3 _ _ _ _ _ _ _ _ ((c .before .before .before .before .before .match) .keys3) ((c .before .before .comment) .ensures _ m _ _ x)
 
--- src/dispatch.rt:16:1
 same-length-9 : tie.Need-same-length-9
 same-length-9 c = search needs
 
--- src/dispatch.rt:16:1
 returns-4 : tie.Need-returns-4
 returns-4 c = λ m x. number.low-5 _ _ _ _ _ _ _ _ ((c .before .before .before .before .match) .keys4) ((c .before .before .marker) .ensures _ _ m _ _ x)
 
--- src/dispatch.rt:16:1
 same-length-10 : tie.Need-same-length-10
 same-length-10 c = search needs
 
--- src/dispatch.rt:16:1
 returns-5 : tie.Need-returns-5
 returns-5 c = λ m x. number.low-6 _ _ _ _ _ _ _ _ ((c .before .before .before .before .match) .keys5) ((c .before .before .clear) .ensures _ _ m _ _ x)
 
--- src/dispatch.rt:16:1
 returns-6 : tie.Need-returns-6
 returns-6 c = λ m x. number.low-rest _ _ _ _ _ _ _ _ ((c .match) .rest .0 .0 .0 .0 .1) ((c .match) .rest .0 .0 .0 .1) ((c .match) .rest .0 .0 .1) ((c .match) .rest .0 .1) ((c .match) .rest .1)
 

@@ -1,0 +1,378 @@
+// Runs of records, and single calls given as a record. The state is checked first, once.
+ghost use mathlib.Core.Path.{_≡_};
+ghost use Rattle.theory.specs.Says.{Says};
+ghost use Rattle.sound.specs.State.{SoundFull};
+ghost use Rattle.state.specs.Full.{full, result, refused};
+ghost use Rattle.standard.specs.Run.{ran, runOf};
+ghost use Rattle.standard.specs.Run as def;
+ghost use Rattle.calls.specs.Public.{whole, Checked};
+use crate::dispatch;
+use records::Item;
+use state::Context;
+use state::Core;
+use state::Done;
+use state::Stack;
+use state::State;
+
+// A run's answer, how many records were done, and the record after it.
+pub struct Went {
+    pub answer: usize,
+    pub done: usize,
+    pub core: Core,
+}
+
+// Whether the state is sound.
+fn check(
+    h: &[u16],
+    core: Core,
+    context: Context,
+    nodes: &[u8],
+    list: &[u16],
+    modes: &[u16],
+    pieces: &[u8],
+    pairs: &[u8],
+) -> bool
+    ensures { λ r. ⌜ Says (SoundFull (full (now (h .entry)) core context (now (nodes .entry)) (now (list .entry)) (now (modes .entry)) (now (pieces .entry)) (now (pairs .entry)))) r ⌝ }
+{
+    if h.len() != Stack::PLACES {
+        return false;
+    }
+    sound::sound(
+        nodes,
+        pieces,
+        pairs,
+        h,
+        list,
+        modes,
+        core.depth,
+        core.counts,
+        core.flags,
+        context,
+    )
+}
+
+// One record after the other, until one is refused.
+fn run_all(
+    h: &mut [u16],
+    core: Core,
+    context: Context,
+    nodes: &mut [u8],
+    list: &mut [u16],
+    modes: &mut [u16],
+    pieces: &mut [u8],
+    pairs: &mut [u8],
+    input: &[u8],
+) -> Went
+    requires { ⌜ SoundFull (full (now h) core context (now nodes) (now list) (now modes) (now pieces) (now pairs)) ⌝ }
+    ensures { λ r. ⌜ ran (r .answer) (r .done) (full (now (h .exit)) (r .core) context (now (nodes .exit)) (now (list .exit)) (now (modes .exit)) (now (pieces .exit)) (now (pairs .exit))) ≡ runOf (now (input .entry)) (full (now (h .entry)) core context (now (nodes .entry)) (now (list .entry)) (now (modes .entry)) (now (pieces .entry)) (now (pairs .entry))) ⌝ }
+{
+    let mut st = core;
+    let mut at: usize = 0;
+    let mut n: usize = 0;
+    while at < input.len() {
+        match records::item_at(input, at) {
+            Item::Call {
+                call: k,
+                a,
+                b,
+                c,
+                from,
+                count,
+                next,
+            } => {
+                let d = dispatch::call(
+                    h,
+                    st,
+                    nodes,
+                    list,
+                    modes,
+                    pieces,
+                    pairs,
+                    input,
+                    k,
+                    a,
+                    b,
+                    c,
+                    from,
+                    count,
+                );
+                st = d.core;
+                if d.answer != 0 {
+                    return Went {
+                        answer: d.answer,
+                        done: n,
+                        core: st,
+                    };
+                }
+                at = next;
+                n += 1;
+            }
+            Item::Unknown => {
+                return Went {
+                    answer: 2,
+                    done: n,
+                    core: st,
+                };
+            }
+            Item::Bad => {
+                return Went {
+                    answer: 9,
+                    done: n,
+                    core: st,
+                };
+            }
+        }
+    }
+    Went {
+        answer: 0,
+        done: n,
+        core: st,
+    }
+}
+
+// The same on any state: the check comes first.
+fn run_checked(
+    h: &mut [u16],
+    core: Core,
+    context: Context,
+    nodes: &mut [u8],
+    list: &mut [u16],
+    modes: &mut [u16],
+    pieces: &mut [u8],
+    pairs: &mut [u8],
+    input: &[u8],
+) -> Went
+    ensures { λ r. ⌜ Checked (SoundFull (full (now (h .entry)) core context (now (nodes .entry)) (now (list .entry)) (now (modes .entry)) (now (pieces .entry)) (now (pairs .entry)))) (ran (r .answer) (r .done) (full (now (h .exit)) (r .core) context (now (nodes .exit)) (now (list .exit)) (now (modes .exit)) (now (pieces .exit)) (now (pairs .exit)))) (runOf (now (input .entry)) (full (now (h .entry)) core context (now (nodes .entry)) (now (list .entry)) (now (modes .entry)) (now (pieces .entry)) (now (pairs .entry)))) (ran 1 0 (full (now (h .entry)) core context (now (nodes .entry)) (now (list .entry)) (now (modes .entry)) (now (pieces .entry)) (now (pairs .entry)))) ⌝ }
+{
+    if !check(h, core, context, nodes, list, modes, pieces, pairs) {
+        return Went {
+            answer: 1,
+            done: 0,
+            core: core,
+        };
+    }
+    run_all(h, core, context, nodes, list, modes, pieces, pairs, input)
+}
+
+// The same with the stack's places as the record has them.
+fn run_on(
+    h: &mut [u16; 512],
+    core: Core,
+    context: Context,
+    nodes: &mut [u8],
+    list: &mut [u16],
+    modes: &mut [u16],
+    pieces: &mut [u8],
+    pairs: &mut [u8],
+    input: &[u8],
+) -> Went
+    ensures { λ r. ⌜ Checked (SoundFull (full (now (h .entry)) core context (now (nodes .entry)) (now (list .entry)) (now (modes .entry)) (now (pieces .entry)) (now (pairs .entry)))) (ran (r .answer) (r .done) (full (now (h .exit)) (r .core) context (now (nodes .exit)) (now (list .exit)) (now (modes .exit)) (now (pieces .exit)) (now (pairs .exit)))) (runOf (now (input .entry)) (full (now (h .entry)) core context (now (nodes .entry)) (now (list .entry)) (now (modes .entry)) (now (pieces .entry)) (now (pairs .entry)))) (ran 1 0 (full (now (h .entry)) core context (now (nodes .entry)) (now (list .entry)) (now (modes .entry)) (now (pieces .entry)) (now (pairs .entry)))) ⌝ }
+{
+    run_checked(h, core, context, nodes, list, modes, pieces, pairs, input)
+}
+
+// A run's answer, how many records were done, and the state after it.
+pub struct Ran {
+    pub answer: usize,
+    pub done: usize,
+    pub state: State,
+}
+
+pub fn run(
+    state: State,
+    nodes: &mut [u8],
+    list: &mut [u16],
+    modes: &mut [u16],
+    pieces: &mut [u8],
+    pairs: &mut [u8],
+    input: &[u8],
+) -> Ran
+    ensures { λ r. ⌜ Checked (SoundFull (whole state (now (nodes .entry)) (now (list .entry)) (now (modes .entry)) (now (pieces .entry)) (now (pairs .entry)))) (ran (r .answer) (r .done) (whole (r .state) (now (nodes .exit)) (now (list .exit)) (now (modes .exit)) (now (pieces .exit)) (now (pairs .exit)))) (runOf (now (input .entry)) (whole state (now (nodes .entry)) (now (list .entry)) (now (modes .entry)) (now (pieces .entry)) (now (pairs .entry)))) (ran 1 0 (whole state (now (nodes .entry)) (now (list .entry)) (now (modes .entry)) (now (pieces .entry)) (now (pairs .entry)))) ⌝ }
+{
+    let mut s = state;
+    let core = s.core();
+    let context = s.context;
+    let w = run_on(
+        &mut s.stack.handles,
+        core,
+        context,
+        nodes,
+        list,
+        modes,
+        pieces,
+        pairs,
+        input,
+    );
+    Ran {
+        answer: w.answer,
+        done: w.done,
+        state: s.with_core(w.core),
+    }
+}
+
+// A single call, given as the record at the front of the input, on a sound state.
+fn call_at(
+    h: &mut [u16],
+    core: Core,
+    context: Context,
+    nodes: &mut [u8],
+    list: &mut [u16],
+    modes: &mut [u16],
+    pieces: &mut [u8],
+    pairs: &mut [u8],
+    input: &[u8],
+) -> Done
+    requires { ⌜ SoundFull (full (now h) core context (now nodes) (now list) (now modes) (now pieces) (now pairs)) ⌝ }
+    ensures { λ r. ⌜ result (r .answer) (full (now (h .exit)) (r .core) context (now (nodes .exit)) (now (list .exit)) (now (modes .exit)) (now (pieces .exit)) (now (pairs .exit))) ≡ def.single (now (input .entry)) (full (now (h .entry)) core context (now (nodes .entry)) (now (list .entry)) (now (modes .entry)) (now (pieces .entry)) (now (pairs .entry))) ⌝ }
+{
+    match records::item_at(input, 0) {
+        Item::Call {
+            call: k,
+            a,
+            b,
+            c,
+            from,
+            count,
+            next: _,
+        } => dispatch::call(
+            h,
+            core,
+            nodes,
+            list,
+            modes,
+            pieces,
+            pairs,
+            input,
+            k,
+            a,
+            b,
+            c,
+            from,
+            count,
+        ),
+        Item::Unknown => Done {
+            answer: 2,
+            core: core,
+        },
+        Item::Bad => Done {
+            answer: 9,
+            core: core,
+        },
+    }
+}
+
+fn call_checked(
+    h: &mut [u16],
+    core: Core,
+    context: Context,
+    nodes: &mut [u8],
+    list: &mut [u16],
+    modes: &mut [u16],
+    pieces: &mut [u8],
+    pairs: &mut [u8],
+    input: &[u8],
+) -> Done
+    ensures { λ r. ⌜ Checked (SoundFull (full (now (h .entry)) core context (now (nodes .entry)) (now (list .entry)) (now (modes .entry)) (now (pieces .entry)) (now (pairs .entry)))) (result (r .answer) (full (now (h .exit)) (r .core) context (now (nodes .exit)) (now (list .exit)) (now (modes .exit)) (now (pieces .exit)) (now (pairs .exit)))) (def.single (now (input .entry)) (full (now (h .entry)) core context (now (nodes .entry)) (now (list .entry)) (now (modes .entry)) (now (pieces .entry)) (now (pairs .entry)))) (refused 1 (full (now (h .entry)) core context (now (nodes .entry)) (now (list .entry)) (now (modes .entry)) (now (pieces .entry)) (now (pairs .entry)))) ⌝ }
+{
+    if !check(h, core, context, nodes, list, modes, pieces, pairs) {
+        return Done {
+            answer: 1,
+            core: core,
+        };
+    }
+    call_at(h, core, context, nodes, list, modes, pieces, pairs, input)
+}
+
+fn call_on(
+    h: &mut [u16; 512],
+    core: Core,
+    context: Context,
+    nodes: &mut [u8],
+    list: &mut [u16],
+    modes: &mut [u16],
+    pieces: &mut [u8],
+    pairs: &mut [u8],
+    input: &[u8],
+) -> Done
+    ensures { λ r. ⌜ Checked (SoundFull (full (now (h .entry)) core context (now (nodes .entry)) (now (list .entry)) (now (modes .entry)) (now (pieces .entry)) (now (pairs .entry)))) (result (r .answer) (full (now (h .exit)) (r .core) context (now (nodes .exit)) (now (list .exit)) (now (modes .exit)) (now (pieces .exit)) (now (pairs .exit)))) (def.single (now (input .entry)) (full (now (h .entry)) core context (now (nodes .entry)) (now (list .entry)) (now (modes .entry)) (now (pieces .entry)) (now (pairs .entry)))) (refused 1 (full (now (h .entry)) core context (now (nodes .entry)) (now (list .entry)) (now (modes .entry)) (now (pieces .entry)) (now (pairs .entry)))) ⌝ }
+{
+    call_checked(h, core, context, nodes, list, modes, pieces, pairs, input)
+}
+
+// A call's answer, and the state after it.
+pub struct Called {
+    pub answer: usize,
+    pub state: State,
+}
+
+// A single call, given as a record: the state is checked first. What follows the record is not looked at.
+pub fn call(
+    state: State,
+    nodes: &mut [u8],
+    list: &mut [u16],
+    modes: &mut [u16],
+    pieces: &mut [u8],
+    pairs: &mut [u8],
+    input: &[u8],
+) -> Called
+    ensures { λ r. ⌜ Checked (SoundFull (whole state (now (nodes .entry)) (now (list .entry)) (now (modes .entry)) (now (pieces .entry)) (now (pairs .entry)))) (result (r .answer) (whole (r .state) (now (nodes .exit)) (now (list .exit)) (now (modes .exit)) (now (pieces .exit)) (now (pairs .exit)))) (def.single (now (input .entry)) (whole state (now (nodes .entry)) (now (list .entry)) (now (modes .entry)) (now (pieces .entry)) (now (pairs .entry)))) (refused 1 (whole state (now (nodes .entry)) (now (list .entry)) (now (modes .entry)) (now (pieces .entry)) (now (pairs .entry)))) ⌝ }
+{
+    let mut s = state;
+    let core = s.core();
+    let context = s.context;
+    let d = call_on(
+        &mut s.stack.handles,
+        core,
+        context,
+        nodes,
+        list,
+        modes,
+        pieces,
+        pairs,
+        input,
+    );
+    Called {
+        answer: d.answer,
+        state: s.with_core(d.core),
+    }
+}
+
+// Whether the state is sound, and nothing else.
+fn check_on(
+    h: &[u16; 512],
+    core: Core,
+    context: Context,
+    nodes: &[u8],
+    list: &[u16],
+    modes: &[u16],
+    pieces: &[u8],
+    pairs: &[u8],
+) -> bool
+    ensures { λ r. ⌜ Says (SoundFull (full (now (h .entry)) core context (now (nodes .entry)) (now (list .entry)) (now (modes .entry)) (now (pieces .entry)) (now (pairs .entry)))) r ⌝ }
+{
+    check(h, core, context, nodes, list, modes, pieces, pairs)
+}
+
+pub fn is_sound(
+    state: State,
+    nodes: &[u8],
+    list: &[u16],
+    modes: &[u16],
+    pieces: &[u8],
+    pairs: &[u8],
+) -> bool
+    ensures { λ r. ⌜ Says (SoundFull (whole state (now (nodes .entry)) (now (list .entry)) (now (modes .entry)) (now (pieces .entry)) (now (pairs .entry)))) r ⌝ }
+{
+    let core = state.core();
+    let context = state.context;
+    check_on(
+        &state.stack.handles,
+        core,
+        context,
+        nodes,
+        list,
+        modes,
+        pieces,
+        pairs,
+    )
+}
