@@ -17,3 +17,7 @@ pub mod Attributes
 pub mod Template
 pub mod Element
 pub mod Step
+pub mod Begin
+pub mod Never
+pub mod Met
+pub mod Tree
