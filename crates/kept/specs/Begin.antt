@@ -286,10 +286,10 @@ begin-modes m x e = by (isTemplateContext x) e
 
 -- ---- the state
 
-pub begin-sound : (n l m p q : List ℕ) (x : Context) → 4 ≤ length p → beginAnswer n m x ≡ 0
+pub begin-sound : (n l m p q : List ℕ) (x : Context) → beginAnswer n m x ≡ 0
     → SoundFull (full (beginState x .stack .handles) (coreOf (beginState x)) x (beginNodes n) l (beginModes m x) p q)
 unfolding beginState coreOf beginAnswer
-begin-sound n l m p q x piece e =
+begin-sound n l m p q x e =
     let a = past (badContext x) 2 _ (omega arith) e in
     let b = past (ltb (freeNodes n 0) 2) 4 _ (omega arith) (a .1) in
     let d = past (ltb (min (length m) 64) (firstModes x)) 6 0 (omega arith) (b .1) in
@@ -300,7 +300,7 @@ begin-sound n l m p q x piece e =
     full-sound (set (replicate 512 0) 0 2) _ x (beginNodes n) l (beginModes m x) p q (length-set {A = ℕ} (replicate 512 0) 0 2 ∙ length-replicate {A = ℕ} 512 0) .0
     (rw (begin-nodes n)
     (record {
-      sizes = record { nodes = (omega arith, rw size (g .1)); pieces = (omega arith, omega arith); pairs = (omega arith, omega arith) };
+      sizes = record { nodes = (omega arith, rw size (g .1)); pieces = (omega arith, λ z. absurd (omega arith)); pairs = (omega arith, omega arith) };
       places = record { stack = (omega arith, omega arith); entries = (omega arith, omega arith); modes = (t .0, t .1) };
       tree = tree n room q (set (replicate 512 0) 0 2) refl refl;
       texts = words n room p;
@@ -308,9 +308,3 @@ begin-sound n l m p q x piece e =
       modes = t .2;
       settings = record { fostering = omega arith; seen = omega arith; context = good-context x (a .0) };
     }))
-
--- the rule on sizes asks for room for piece 0, though no piece is used: without it the same state is not sound
-pub begin-asks : (n l m p q : List ℕ) (x : Context)
-    → SoundFull (full (beginState x .stack .handles) (coreOf (beginState x)) x (beginNodes n) l (beginModes m x) p q) → 4 ≤ length p
-unfolding beginState coreOf
-begin-asks n l m p q x s = omega (arith, s .sound .sizes .pieces .1)

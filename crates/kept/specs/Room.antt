@@ -26,9 +26,9 @@ pub slots-nodes : (m : List ℕ) (c : ℕ) → c < slots NODES m → (c ≤ 4096
 unfolding slots
 slots-nodes m c h = (omega arith, omega arith)
 
-pub slots-pieces : (p : List ℕ) (v : ℕ) → v < slots PIECES p → (v ≤ 8192) × ((v + 1) * 4 ≤ length p)
+pub slots-pieces : (p : List ℕ) (v : ℕ) → v < slots PIECES p → (v ≤ 8192) × (0 < v → (v + 1) * 4 ≤ length p)
 unfolding slots
-slots-pieces p v h = (omega arith, omega arith)
+slots-pieces p v h = (omega arith, λ z. omega arith)
 
 pair-slots : (q : List ℕ) (u : ℕ) → (u ≤ 4096) × (u * 4 ≤ length q) → u ≤ slots PAIRS q
 unfolding slots

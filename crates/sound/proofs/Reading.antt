@@ -110,9 +110,9 @@ module _ {m p q : List ℕ} {c v u : ℕ} (s : Sizes m p q c v u) (n : ℕ) wher
   unfolding inside slots
   node-inside h = lt-ltb n (min (length m / 32) 4097) (omega (arith, s .nodes .0, s .nodes .1))
 
-  pub piece-inside : n ≤ v → inside PIECES p n ≡ true
+  pub piece-inside : 0 < n → n ≤ v → inside PIECES p n ≡ true
   unfolding inside slots
-  piece-inside h = lt-ltb n (min (length p / 4) 8193) (omega (arith, s .pieces .0, s .pieces .1))
+  piece-inside z h = lt-ltb n (min (length p / 4) 8193) (omega (arith, s .pieces .0, s .pieces .1 (omega arith)))
 
   pub pair-inside : n < u → inside PAIRS q n ≡ true
   unfolding inside slots

@@ -24,11 +24,12 @@ use Rattle.state.specs.declared.Context.the-variants.{None, Element}
 
 -- ---- counts
 
--- No more nodes, pieces and pairs are used than there may be, or than were lent. A node takes 32 bytes, a piece and a pair
--- 4 each; number 0 of the nodes and of the pieces takes room too.
+-- No more nodes, pieces and pairs are used than there may be, and each used one lies in the lent bytes. A node takes 32 bytes,
+-- a piece and a pair 4 each; number 0 of the nodes and of the pieces lies before the first. Where no piece is used, no byte is
+-- asked for.
 pub record Sizes (m p q : List ℕ) (c v u : ℕ) : Type 0 where
   pub nodes : (c ≤ 4096) × ((c + 1) * 32 ≤ length m)
-  pub pieces : (v ≤ 8192) × ((v + 1) * 4 ≤ length p)
+  pub pieces : (v ≤ 8192) × (0 < v → (v + 1) * 4 ≤ length p)
   pub pairs : (u ≤ 4096) × (u * 4 ≤ length q)
 
 -- The same for the places.

@@ -251,10 +251,13 @@ fn sizes(mem: &[u8], pieces: &[u8], pairs: &[u8], c: usize, v: usize, u: usize) 
     if (c + 1) * 32 > mem.len() {
         return false;
     }
-    if (v + 1) * 4 > pieces.len() {
+    if u * 4 > pairs.len() {
         return false;
     }
-    u * 4 <= pairs.len()
+    if v == 0 {
+        return true;
+    }
+    (v + 1) * 4 <= pieces.len()
 }
 
 // The counts of the places are within capacity.

@@ -6,3 +6,5 @@ pub mod Small
 pub mod Step
 pub mod Run
 pub mod Begin
+pub mod Stack
+pub mod Formatting

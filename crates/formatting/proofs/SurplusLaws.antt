@@ -1,0 +1,120 @@
+-- The cases of the entry that a fourth equal tag drives out, as the code meets them.
+-- Assumes nothing.
+use Prim.Native.Nat.{ℕ, zero, suc, _+_, _-_, _<_, _≤_}
+use mathlib.Core.Path.{_≡_, refl, sym, ap, _∙_}
+use mathlib.Core.Bool.{Bool, true, false, cond}
+use mathlib.Core.List.{List, [], _∷_}
+use native.Mathlib.Omega.{arith}
+use native.Mathlib.Nat.{not-suc-le-zero, le-of-suc-le-suc}
+use native.Mathlib.Numerals.{add-one}
+use lib.ListN.{length, getD, take, drop, length-drop}
+use lib.Seq.{drop-cons, getD-take, length-take-le}
+use lib.Dec.{ltb}
+use borrow.Author.Tests.{lt-ltb, le-ltb, ltb-true}
+use Rattle.places.specs.Places.{Places, placesOf, placeOf}
+use Rattle.places.specs.declared.Found.{Found}
+use Rattle.places.specs.declared.Found.the-variants.{At, Nothing}
+use Rattle.standard.specs.Small.{MARKER}
+use Rattle.standard.specs.Formatting.{after, howMany, before, afterMarker, surplus}
+
+pub marker-at : (l : Places) {o : Found} {i : ℕ} → o ≡ placeOf l MARKER → o ≡ At i → i + 1 ≡ afterMarker l
+unfolding afterMarker after
+marker-at l eo h = rw (sym eo ∙ h)
+
+pub marker-none : (l : Places) {o : Found} → o ≡ placeOf l MARKER → o ≡ Nothing → 0 ≡ afterMarker l
+unfolding afterMarker after
+marker-none l eo h = rw (sym eo ∙ h)
+
+pub one-or-none : (b : Bool) {a : ℕ} → a ≡ cond b 1 0 → a ≤ 1
+one-or-none true e = omega arith
+one-or-none false e = omega arith
+
+-- ---- the loops, over the first `size` entries of l: those from i on are left
+
+many-none : (p : ℕ → Bool) → howMany p [] ≡ 0
+unfolding howMany
+many-none p = refl
+
+many-cons : (p : ℕ → Bool) (x : ℕ) (xs : List ℕ) → howMany p (x ∷ xs) ≡ cond (p x) 1 0 + howMany p xs
+unfolding howMany
+many-cons p x xs = refl
+
+before-none : (p : ℕ → Bool) → before p [] ≡ 0
+unfolding before
+before-none p = refl
+
+before-cons : (p : ℕ → Bool) (x : ℕ) (xs : List ℕ) → before p (x ∷ xs) ≡ cond (p x) 0 (suc (before p xs))
+unfolding before
+before-cons p x xs = refl
+
+drop-past : (xs : List ℕ) (i : ℕ) → length xs ≤ i → drop i xs ≡ []
+drop-past [] zero h = refl
+drop-past [] (suc i) h = refl
+drop-past (x ∷ xs) zero h = absurd (not-suc-le-zero h)
+drop-past (x ∷ xs) (suc i) h = drop-past xs i (le-of-suc-le-suc h)
+
+module _ (p : ℕ → Bool) (l : List ℕ) (size i : ℕ) (le : size ≤ length l) where
+  rest-none : size ≤ i → drop i (take size l) ≡ []
+  rest-none h = drop-past (take size l) i (omega (arith, length-take-le size l le))
+
+  rest-cons : i < size → drop i (take size l) ≡ getD l i 0 ∷ drop (i + 1) (take size l)
+  rest-cons h =
+      drop-cons (take size l) i 0 (omega (arith, length-take-le size l le)) ∙ rw (getD-take size l i 0 h, add-one)
+
+  pub many-turn : (n a : ℕ) {G : ℕ} {b : Bool} → i < size → b ≡ p (getD l i 0) → a ≡ cond b 1 0 → G ≡ n + howMany p (drop i (take size l)) → G ≡ (n + a) + howMany p (drop (i + 1) (take size l))
+  many-turn n a h eb ea g =
+      let e : howMany p (drop i (take size l)) ≡ a + howMany p (drop (i + 1) (take size l)) = ap (howMany p) (rest-cons h) ∙ many-cons p (getD l i 0) (drop (i + 1) (take size l)) ∙ rw (← eb, ← ea) in
+      omega arith
+
+  pub many-end : (n : ℕ) {G : ℕ} → size ≤ i → G ≡ n + howMany p (drop i (take size l)) → n ≡ G
+  many-end n h g = let e : howMany p (drop i (take size l)) ≡ 0 = ap (howMany p) (rest-none h) ∙ many-none p in omega arith
+
+  pub before-hit : {G : ℕ} {b : Bool} → i < size → b ≡ p (getD l i 0) → b ≡ true → G ≡ i + before p (drop i (take size l)) → i ≡ G
+  before-hit h eb e g =
+      let f : before p (drop i (take size l)) ≡ 0 = ap (before p) (rest-cons h) ∙ before-cons p (getD l i 0) (drop (i + 1) (take size l)) ∙ rw (← eb, e) in
+      omega arith
+
+  pub before-turn : {G : ℕ} {b : Bool} → i < size → b ≡ p (getD l i 0) → b ≡ false → G ≡ i + before p (drop i (take size l)) → G ≡ (i + 1) + before p (drop (i + 1) (take size l))
+  before-turn h eb e g =
+      let f : before p (drop i (take size l)) ≡ suc (before p (drop (i + 1) (take size l))) = ap (before p) (rest-cons h) ∙ before-cons p (getD l i 0) (drop (i + 1) (take size l)) ∙ rw (← eb, e) in
+      omega arith
+
+  pub before-end : {G : ℕ} → size ≤ i → G ≡ i + before p (drop i (take size l)) → i ≡ G
+  before-end h g = let e : before p (drop i (take size l)) ≡ 0 = ap (before p) (rest-none h) ∙ before-none p in omega arith
+
+-- ---- the whole
+
+module _ (p : ℕ → Bool) (l : List ℕ) (size : ℕ) {first : ℕ} (ef : first ≡ afterMarker (placesOf l size)) {k : ℕ} (ek : k ≡ howMany p (drop first (take size l))) where
+  pub surplus-none : k < 3 → Nothing ≡ surplus p (placesOf l size)
+  unfolding surplus placesOf
+  surplus-none h = rw (← ef, ← ek, le-ltb 2 k (omega arith))
+
+  pub surplus-at : {i : ℕ} → 3 ≤ k → i ≡ first + before p (drop first (take size l)) → At i ≡ surplus p (placesOf l size)
+  unfolding surplus placesOf
+  surplus-at h ei = rw (← ef, ← ek, lt-ltb 2 k (omega arith), ei)
+
+-- the entry is one of those in use
+before-lt : (p : ℕ → Bool) (xs : List ℕ) → 0 < howMany p xs → before p xs < length xs
+before-lt p [] h = absurd (omega (arith, many-none p))
+before-lt p (x ∷ xs) h = by (p x) refl (before-lt p xs)
+  where
+    by : (b : Bool) → p x ≡ b → (0 < howMany p xs → before p xs < length xs) → before p (x ∷ xs) < suc (length xs)
+    by true e r = let f : before p (x ∷ xs) ≡ 0 = before-cons p x xs ∙ rw e in omega arith
+    by false e r =
+        let f : before p (x ∷ xs) ≡ suc (before p xs) = before-cons p x xs ∙ rw e in
+        let g : howMany p (x ∷ xs) ≡ 0 + howMany p xs = many-cons p x xs ∙ rw e in
+        let y : before p xs < length xs = r (omega arith) in
+        omega arith
+
+pub surplus-lt : (p : ℕ → Bool) (l : List ℕ) (size i : ℕ) {o : Found} → size ≤ length l → o ≡ surplus p (placesOf l size) → o ≡ At i → i < size
+unfolding surplus placesOf
+surplus-lt p l size i le eo h = by (ltb 2 (howMany p (drop (afterMarker (placesOf l size)) (take size l)))) refl (sym eo ∙ h)
+  where
+    by : (b : Bool) → ltb 2 (howMany p (drop (afterMarker (placesOf l size)) (take size l))) ≡ b
+        → cond b (At (afterMarker (placesOf l size) + before p (drop (afterMarker (placesOf l size)) (take size l)))) Nothing ≡ At i → i < size
+    by false e f = let z : _≡_ {A = ℕ} 0 1 = cc in absurd (omega arith)
+    by true e f =
+        let g : afterMarker (placesOf l size) + before p (drop (afterMarker (placesOf l size)) (take size l)) ≡ i = cc in
+        let y : before p (drop (afterMarker (placesOf l size)) (take size l)) < length (drop (afterMarker (placesOf l size)) (take size l))
+        = before-lt p (drop (afterMarker (placesOf l size)) (take size l)) (omega (arith, ltb-true 2 (howMany p (drop (afterMarker (placesOf l size)) (take size l))) e)) in
+        omega (arith, length-drop (afterMarker (placesOf l size)) (take size l), length-take-le size l le)

@@ -1,0 +1,91 @@
+-- `formatting::create::create_listed` meets its contract.
+-- Assumes nothing.
+use Rattle.formatting.proofs.CreateLaws as laws
+use Rattle.formatting.proofs.SurplusLaws.{surplus-lt}
+use mathlib.Core.Path.{refl}
+use mathlib.Core.List.{[]}
+use Rattle.state.specs.declared.Context.the-variants.{None}
+use borrow.Author.Needs.{needs}
+use Rattle.formatting.proofs.create.create_listed.Statement.{statement}
+use Rattle.formatting.proofs.create.create_listed.Tie as tie
+
+next-requires : tie.Need-next-requires
+next-requires c κs = search needs
+
+surplus-requires : tie.Need-surplus-requires
+surplus-requires c κs = search needs
+
+is-full-requires : tie.Need-is-full-requires
+is-full-requires c κs = ((c .before .before .before .before .before .before .before .before .before .before .before .pre) .1 .0, λ i e. surplus-lt _ _ _ i ((c .before .before .before .before .before .before .before .before .before .before .before .pre) .1 .0) ((c .before .surplus) .ensures) e)
+
+same-length : tie.Need-same-length
+same-length c = search needs
+
+same-length-2 : tie.Need-same-length-2
+same-length-2 c = search needs
+
+same-length-3 : tie.Need-same-length-3
+same-length-3 c = search needs
+
+returns : tie.Need-returns
+returns c = λ m w x. laws.call-list _ _ _ m w _ x _ ((c .before .before .before .before .before .before .before .before .before .before .before .before .before .args) .input .now) ((c .before .before .before .before .before .before .before .before .before .before .before .before .before .args) .t .name) ((c .before .before .before .before .before .before .before .before .before .before .before .before .before .args) .t .from) ((c .before .before .before .before .before .before .before .before .before .before .before .before .before .args) .t .count) ((c .before .before .before .before .before .before .before .before .before .before .before .before .before .pre) .1 .2) refl ((c .before .before .before .before .before .before .before .before .before .before .before .before .before .pre) .1 .3) ((c .before .before .before .before .before .before .before .before .before .before .before .before .before .pre) .0 .1) ((c .before .before .before .surplus) .ensures) ((c .before .is-full) .ensures) ((c .if1) .taken)
+
+insert-requires : tie.Need-insert-requires
+insert-requires c κs = search needs
+
+same-length-4 : tie.Need-same-length-4
+same-length-4 c = search needs
+
+same-length-5 : tie.Need-same-length-5
+same-length-5 c = search needs
+
+same-length-6 : tie.Need-same-length-6
+same-length-6 c = search needs
+
+same-length-7 : tie.Need-same-length-7
+same-length-7 c = search needs
+
+returns-2 : tie.Need-returns-2
+returns-2 c = λ m w x. laws.call-pairs _ _ _ m w _ x _ ((c .before .before .before .before .before .before .before .before .before .before .before .before .before .before .before .before .before .before .before .before .before .before .before .before .before .args) .input .now) ((c .before .before .before .before .before .before .before .before .before .before .before .before .before .before .before .before .before .before .before .before .before .before .before .before .before .args) .t .name) ((c .before .before .before .before .before .before .before .before .before .before .before .before .before .before .before .before .before .before .before .before .before .before .before .before .before .args) .t .from) ((c .before .before .before .before .before .before .before .before .before .before .before .before .before .before .before .before .before .before .before .before .before .before .before .before .before .args) .t .count) ((c .before .before .before .before .before .before .before .before .before .before .before .before .before .before .before .before .before .before .before .before .before .before .before .before .before .pre) .1 .2) refl ((c .before .before .before .before .before .before .before .before .before .before .before .before .before .before .before .before .before .before .before .before .before .before .before .before .before .pre) .1 .3) ((c .before .before .before .before .before .before .before .before .before .before .before .before .before .before .before .before .before .before .before .before .before .before .before .before .before .pre) .0 .1) ((c .before .before .before .before .before .before .before .before .before .before .before .before .before .before .before .surplus) .ensures) ((c .before .before .before .before .before .before .before .before .before .before .before .before .before .is-full) .ensures) ((c .before .before .before .before .before .before .before .before .before .before .before .before .if1) .left) ((c .before .before .before .before .before .before .before .before .insert) .ensures _ m w x) ((c .if2) .taken)
+
+enlist-requires : tie.Need-enlist-requires
+enlist-requires c κs = laws.enlist-can ((c .before .before .before .before .before .before .before .before .before .before .before .before .before .before .before .before .before .before .before .before .before .before .before .before .before .before .args) .h .now) ((c .before .before .before .before .before .before .before .before .before .before .before .before .before .before .before .before .before .before .before .before .before .before .before .before .before .before .args) .nodes .now) ((c .before .before .before .before .before .before .before .before .before .before .before .before .before .before .before .before .before .before .before .before .before .before .before .before .before .before .args) .list .now) [] [] ((c .before .before .before .before .before .before .before .before .before .before .before .before .before .before .before .before .before .before .before .before .before .before .before .before .before .before .args) .pairs .now) None ((c .before .before .before .before .before .before .before .before .before .before .before .before .before .before .before .before .before .before .before .before .before .before .before .before .before .before .args) .core) ((c .before .before .before .before .before .before .before .before .before .before .before .before .before .before .before .before .before .before .before .before .before .before .before .before .before .before .args) .input .now) ((c .before .before .before .before .before .before .before .before .before .before .before .before .before .before .before .before .before .before .before .before .before .before .before .before .before .before .args) .t .name) ((c .before .before .before .before .before .before .before .before .before .before .before .before .before .before .before .before .before .before .before .before .before .before .before .before .before .before .args) .t .from) ((c .before .before .before .before .before .before .before .before .before .before .before .before .before .before .before .before .before .before .before .before .before .before .before .before .before .before .args) .t .count) ((c .before .before .before .before .before .before .before .before .before .before .before .before .before .before .before .before .before .before .before .before .before .before .before .before .before .before .pre) .1 .2) refl ((c .before .before .before .before .before .before .before .before .before .before .before .before .before .before .before .before .before .before .before .before .before .before .before .before .before .before .pre) .1 .3) ((c .before .before .before .before .before .before .before .before .before .before .before .before .before .before .before .before .before .before .before .before .before .before .before .before .before .before .pre) .0 .1) ((c .before .before .before .before .before .before .before .before .before .before .before .before .before .before .before .before .surplus) .ensures) ((c .before .before .before .before .before .before .before .before .before .before .before .before .before .before .is-full) .ensures) (laws.count-kept ((c .before .before .before .before .before .before .before .before .before .before .before .before .before .before .before .before .before .before .before .before .before .before .before .before .before .before .args) .h .now) ((c .before .before .before .before .before .before .before .before .before .before .before .before .before .before .before .before .before .before .before .before .before .before .before .before .before .before .args) .nodes .now) ((c .before .before .before .before .before .before .before .before .before .before .before .before .before .before .before .before .before .before .before .before .before .before .before .before .before .before .args) .list .now) [] [] ((c .before .before .before .before .before .before .before .before .before .before .before .before .before .before .before .before .before .before .before .before .before .before .before .before .before .before .args) .pairs .now) None ((c .before .before .before .before .before .before .before .before .before .before .before .before .before .before .before .before .before .before .before .before .before .before .before .before .before .before .args) .core) ((c .before .before .before .before .before .before .before .before .before .before .before .before .before .before .before .before .before .before .before .before .before .before .before .before .before .before .args) .input .now) ((c .before .before .before .before .before .before .before .before .before .before .before .before .before .before .before .before .before .before .before .before .before .before .before .before .before .before .args) .t .name) ((c .before .before .before .before .before .before .before .before .before .before .before .before .before .before .before .before .before .before .before .before .before .before .before .before .before .before .args) .t .from) ((c .before .before .before .before .before .before .before .before .before .before .before .before .before .before .before .before .before .before .before .before .before .before .before .before .before .before .args) .t .count) ((c .before .before .before .before .before .before .before .before .before .before .before .before .before .before .before .before .before .before .before .before .before .before .before .before .before .before .pre) .1 .2) refl ((c .before .before .before .before .before .before .before .before .before .before .before .before .before .before .before .before .before .before .before .before .before .before .before .before .before .before .pre) .1 .3) ((c .before .before .before .before .before .before .before .before .before .before .before .before .before .before .before .before .before .before .before .before .before .before .before .before .before .before .pre) .0 .1) _ _ _ ((c .before .before .before .before .before .before .before .before .before .insert) .result .answer) ((c .before .before .before .before .before .before .before .before .before .insert) .result .core) ((c .before .before .before .before .before .before .before .before .before .insert) .ensures _ [] [] None)) ((c .before .before .before .before .before .before .before .before .before .before .before .before .before .before .before .before .before .before .before .before .before .before .before .before .before .before .pre) .1 .0) ((c .before .before .before .before .before .before .before .before .before .before .before .before .before .if1) .left)
+
+same-length-8 : tie.Need-same-length-8
+same-length-8 c = search needs
+
+same-length-9 : tie.Need-same-length-9
+same-length-9 c = search needs
+
+same-length-10 : tie.Need-same-length-10
+same-length-10 c = search needs
+
+same-length-11 : tie.Need-same-length-11
+same-length-11 c = search needs
+
+returns-3 : tie.Need-returns-3
+returns-3 c = λ m w x. laws.call-done _ _ _ m w _ x _ ((c .before .before .before .before .before .before .before .before .before .before .before .before .before .before .before .before .before .before .before .before .before .before .before .before .before .before .before .before .before .args) .input .now) ((c .before .before .before .before .before .before .before .before .before .before .before .before .before .before .before .before .before .before .before .before .before .before .before .before .before .before .before .before .before .args) .t .name) ((c .before .before .before .before .before .before .before .before .before .before .before .before .before .before .before .before .before .before .before .before .before .before .before .before .before .before .before .before .before .args) .t .from) ((c .before .before .before .before .before .before .before .before .before .before .before .before .before .before .before .before .before .before .before .before .before .before .before .before .before .before .before .before .before .args) .t .count) ((c .before .before .before .before .before .before .before .before .before .before .before .before .before .before .before .before .before .before .before .before .before .before .before .before .before .before .before .before .before .pre) .1 .2) refl ((c .before .before .before .before .before .before .before .before .before .before .before .before .before .before .before .before .before .before .before .before .before .before .before .before .before .before .before .before .before .pre) .1 .3) ((c .before .before .before .before .before .before .before .before .before .before .before .before .before .before .before .before .before .before .before .before .before .before .before .before .before .before .before .before .before .pre) .0 .1) ((c .before .before .before .before .before .before .before .before .before .before .before .before .before .before .before .before .before .before .before .surplus) .ensures) ((c .before .before .before .before .before .before .before .before .before .before .before .before .before .before .before .before .before .is-full) .ensures) ((c .before .before .before .before .before .before .before .before .before .before .before .before .before .before .before .before .if1) .left) ((c .before .before .before .before .before .before .before .before .before .before .before .before .insert) .ensures _ m w x) ((c .before .before .before .before .if2) .left) ((c .before .before .before .before .before .before .before .before .before .before .before .before .before .before .before .before .before .before .before .before .before .before .before .next) .ensures) ((c .before .before .enlist) .ensures _ _ m w _ x)
+
+pub create-listed-spec : {M : Type 1} → statement M
+create-listed-spec =
+    tie.close
+    (tie.spec
+    next-requires
+    surplus-requires
+    is-full-requires
+    same-length
+    same-length-2
+    same-length-3
+    returns
+    insert-requires
+    same-length-4
+    same-length-5
+    same-length-6
+    same-length-7
+    returns-2
+    enlist-requires
+    same-length-8
+    same-length-9
+    same-length-10
+    same-length-11
+    returns-3)

@@ -1,0 +1,59 @@
+-- `formatting::reconstruct::make_anew` meets its contract.
+-- Assumes nothing.
+use Rattle.formatting.proofs.ReconstructLaws as laws
+use borrow.Author.Needs.{needs}
+use Rattle.formatting.proofs.reconstruct.make_anew.Statement.{statement}
+use Rattle.formatting.proofs.reconstruct.make_anew.Tie as tie
+
+mul-t13 : tie.Need-mul-t13
+mul-t13 c = search needs
+
+slice-read-t15 : tie.Need-slice-read-t15
+slice-read-t15 c = search needs
+
+copy-in-requires : tie.Need-copy-in-requires
+copy-in-requires c κs = search needs
+
+push-requires : tie.Need-push-requires
+push-requires c κs = search needs
+
+swap-at-requires : tie.Need-swap-at-requires
+swap-at-requires c κs = search needs
+
+add-with-nodes : tie.Need-add-with-nodes
+add-with-nodes c = search needs
+
+with-nodes-requires : tie.Need-with-nodes-requires
+with-nodes-requires c κs = search needs
+
+with-depth-requires : tie.Need-with-depth-requires
+with-depth-requires c κs = search needs
+
+same-length : tie.Need-same-length
+same-length c = search needs
+
+same-length-2 : tie.Need-same-length-2
+same-length-2 c = search needs
+
+same-length-3 : tie.Need-same-length-3
+same-length-3 c = search needs
+
+returns : tie.Need-returns
+returns c = (laws.counts-after _ _ _ ((c .before .before .before .before .before .before .before .before .push) .ensures .0) ((c .before .with-nodes) .ensures) ((c .with-depth) .ensures), λ m p q x. laws.anew-done _ _ _ m p q x _ _ _ _ _ ((c .before .before .before .before .before .before .before .before .before .before .before .before .before .before .before .before .before .before .before .pre) .1 .2) ((c .before .before .before .before .before .before .before .before .before .before .before .before .before .before .before .before .before .before .before .pre) .1 .0) ((c .before .before .before .before .before .before .before .before .before .before .before .before .copy-in) .ensures .0) ((c .before .before .before .before .before .before .before .before .before .before .before .before .copy-in) .ensures .1 _ m p q x) ((c .before .before .before .before .before .before .before .before .push) .ensures .1) ((c .before .before .before .before .swap-at) .ensures) ((c .before .with-nodes) .ensures) ((c .with-depth) .ensures))
+
+pub make-anew-spec : {M : Type 1} → statement M
+make-anew-spec =
+    tie.close
+    (tie.spec
+    mul-t13
+    slice-read-t15
+    copy-in-requires
+    push-requires
+    swap-at-requires
+    add-with-nodes
+    with-nodes-requires
+    with-depth-requires
+    same-length
+    same-length-2
+    same-length-3
+    returns)

@@ -1,0 +1,72 @@
+-- `formatting::tags::are_same` meets its contract. The first i pairs are the same, so the rest decides.
+-- Assumes nothing.
+use Rattle.formatting.proofs.TagLaws as laws
+use borrow.Author.Needs.{needs}
+use Prim.Native.Nat.{_+_, _-_, _≤_}
+use mathlib.Core.Path.{_≡_}
+use native.Mathlib.Omega.{arith}
+use Rattle.standard.specs.Pairs.{pairsIn}
+use Rattle.standard.specs.Formatting.{pairsOf, samePairs}
+use Rattle.formatting.proofs.tags.are_same.Statement.{statement}
+use Rattle.formatting.proofs.tags.are_same.Tie as tie
+
+abbrev Inv-loop : tie.InvT-loop
+Inv-loop pairs start input from count at₀ i₀ at i = (i ≤ count) × (samePairs (pairsOf pairs start count) (pairsIn input from count) ≡ samePairs (pairsOf pairs (start + i) (count - i)) (pairsIn input at (count - i)))
+
+abbrev μ-loop : tie.MeasureT-loop
+μ-loop pairs start input from count at₀ i₀ at i = count - i
+
+loop-holds : tie.Need-loop-holds Inv-loop μ-loop
+loop-holds c = (omega arith, laws.same-start ((c .before .before .args) .pairs .now) ((c .before .before .args) .input .now) ((c .before .before .args) .start) ((c .before .before .args) .from) ((c .before .before .args) .count) 0)
+
+pair-at-requires : tie.Need-pair-at-requires Inv-loop μ-loop
+pair-at-requires c κs = search needs
+
+add-pair-field : tie.Need-add-pair-field Inv-loop μ-loop
+add-pair-field c = search needs
+
+pair-field-requires : tie.Need-pair-field-requires Inv-loop μ-loop
+pair-field-requires c κs = search needs
+
+returns : tie.Need-returns Inv-loop μ-loop
+returns c = laws.other-name _ _ _ _ _ _ (omega arith) ((c .before .before .before .pair-at) .ensures .0) ((c .before .before .pair-field) .ensures) ((c .before .before .before .before .before .loop) .inv .1) ((c .if1) .taken)
+
+add-pair-field-2 : tie.Need-add-pair-field-2 Inv-loop μ-loop
+add-pair-field-2 c = search needs
+
+pair-field-requires-2 : tie.Need-pair-field-requires-2 Inv-loop μ-loop
+pair-field-requires-2 c κs = search needs
+
+returns-2 : tie.Need-returns-2 Inv-loop μ-loop
+returns-2 c = laws.other-text _ _ _ _ _ _ (omega arith) ((c .before .before .before .before .before .before .pair-at) .ensures .0) ((c .before .before .before .before .before .pair-field) .ensures) ((c .before .before .before .before .before .before .before .before .loop) .inv .1) ((c .before .before .before .if1) .left) ((c .before .before .before .before .before .before .pair-at) .ensures .1) ((c .before .before .pair-field2) .ensures) ((c .if2) .taken)
+
+add-i : tie.Need-add-i Inv-loop μ-loop
+add-i c = search needs
+
+loop-less : tie.Need-loop-less Inv-loop μ-loop
+loop-less c = search needs
+
+loop-again : tie.Need-loop-again Inv-loop μ-loop
+loop-again c = (omega arith, laws.same-turn _ _ _ _ _ _ (omega arith) ((c .before .before .before .before .before .before .pair-at) .ensures .0) ((c .before .before .before .before .before .pair-field) .ensures) ((c .before .before .before .before .before .before .before .before .loop) .inv .1) ((c .before .before .before .if1) .left) ((c .before .before .before .before .before .before .pair-at) .ensures .1) ((c .before .before .pair-field2) .ensures) ((c .if2) .left) ((c .before .before .before .before .before .before .pair-at) .ensures .2))
+
+returns-3 : tie.Need-returns-3 Inv-loop μ-loop
+returns-3 c = laws.same-end _ _ _ _ _ _ (omega arith) ((c .before .loop) .inv .1)
+
+pub are-same-spec : {M : Type 1} → statement M
+are-same-spec =
+    tie.close
+    (tie.spec
+    Inv-loop
+    μ-loop
+    loop-holds
+    pair-at-requires
+    add-pair-field
+    pair-field-requires
+    returns
+    add-pair-field-2
+    pair-field-requires-2
+    returns-2
+    add-i
+    loop-less
+    loop-again
+    returns-3)
