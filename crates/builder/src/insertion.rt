@@ -121,8 +121,8 @@ pub fn comment(h: &[u16], core: Core, nodes: &mut [u8], at: u16, number: u16) ->
             let p = usual_place(nodes, h, core);
             comment_at(core, nodes, p, number)
         }
-        1 => comment_at(core, nodes, Place::End(Node::root()), number),
-        2 => comment_at(core, nodes, Place::End(Node::document()), number),
+        1 => comment_at(core, nodes, Place::End(Node(Node::ROOT)), number),
+        2 => comment_at(core, nodes, Place::End(Node(Node::DOCUMENT)), number),
         _ => Done {
             answer: 2,
             core: core,

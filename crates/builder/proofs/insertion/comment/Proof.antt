@@ -1,6 +1,7 @@
 -- `builder::insertion::comment` meets its contract.
 -- Assumes nothing.
 use Rattle.builder.proofs.InsertionLaws as laws
+use mathlib.Core.Path.{refl}
 use borrow.Author.Needs.{needs}
 use Rattle.builder.proofs.insertion.comment.Statement.{statement}
 use Rattle.builder.proofs.insertion.comment.Tie as tie
@@ -11,14 +12,8 @@ usual-place-requires c κs = search needs
 comment-at-requires : tie.Need-comment-at-requires
 comment-at-requires c κs = search needs
 
-root-requires : tie.Need-root-requires
-root-requires c κs = search needs
-
 comment-at-requires-2 : tie.Need-comment-at-requires-2
 comment-at-requires-2 c κs = search needs
-
-document-requires : tie.Need-document-requires
-document-requires c κs = search needs
 
 comment-at-requires-3 : tie.Need-comment-at-requires-3
 comment-at-requires-3 c κs = search needs
@@ -33,13 +28,13 @@ same-length-2 : tie.Need-same-length-2
 same-length-2 c = search needs
 
 returns-2 : tie.Need-returns-2
-returns-2 c = λ l m w q x. laws.comment-root _ _ l m w q x _ _ ((c .before .before .before .before .before .match) .keys2) ((c .before .before .before .root) .ensures) ((c .before .before .comment-at2) .ensures _ l m w q x)
+returns-2 c = λ l m w q x. laws.comment-root _ _ l m w q x _ _ ((c .before .before .before .before .match) .keys2) refl ((c .before .before .comment-at2) .ensures _ l m w q x)
 
 same-length-3 : tie.Need-same-length-3
 same-length-3 c = search needs
 
 returns-3 : tie.Need-returns-3
-returns-3 c = λ l m w q x. laws.comment-document _ _ l m w q x _ _ ((c .before .before .before .before .before .match) .keys3) ((c .before .before .before .document) .ensures) ((c .before .before .comment-at3) .ensures _ l m w q x)
+returns-3 c = λ l m w q x. laws.comment-document _ _ l m w q x _ _ ((c .before .before .before .before .match) .keys3) refl ((c .before .before .comment-at3) .ensures _ l m w q x)
 
 returns-4 : tie.Need-returns-4
 returns-4 c = λ l m w q x. laws.comment-bad _ _ l m w q x _ _ ((c .match) .rest .0 .0 .1) ((c .match) .rest .0 .1) ((c .match) .rest .1)
@@ -50,9 +45,7 @@ comment-spec =
     (tie.spec
     usual-place-requires
     comment-at-requires
-    root-requires
     comment-at-requires-2
-    document-requires
     comment-at-requires-3
     same-length
     returns

@@ -1,0 +1,1 @@
+"""Inputs for the comparison, from a source of randomness."""
