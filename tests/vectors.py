@@ -40,6 +40,15 @@ def comment(at, v):
 
 
 MARKER, CLEAR, POP, UNMODE = record(5), record(6), record(14), record(17)
+CLOSE_P, CLOSE_CELL = record(11), record(12)
+
+
+def end(name):
+    return record(10, NUMBER[name])
+
+
+def implied(kind, name=0):
+    return record(13, kind, name)
 
 
 def foster(on):
@@ -101,6 +110,31 @@ PROGRAM = [
     ("flags are 0 or 1", foster(1) + head(1) + foster(2), EMPTY, 2, 2),
     ("head seen is 0 or 1", head(0) + head(2), EMPTY, 1, 2),
     ("pop leaves the root", element("body") + POP + POP, EMPTY + ["|   <body>"], 2, 3),
+    ("an end tag across an open element", element("body") + element("b") + element("i") + end("b") + text(1),
+     EMPTY + ["|   <body>", "|     <b>", "|       <i>", "|     #1"], 5, 0),
+    ("a special element stops it", element("body") + element("b") + element("p") + end("b") + text(1),
+     EMPTY + ["|   <body>", "|     <b>", "|       <p>", "|         #1"], 5, 0),
+    ("so does a MathML one", element("body") + element("b") + element("mi", PUSH, MATHML) + end("b") + text(1),
+     EMPTY + ["|   <body>", "|     <b>", "|       <math mi>", "|         #1"], 5, 0),
+    ("nothing of that name is open", element("p") + end("b") + text(1), EMPTY + ["|   <p>", "|     #1"], 3, 0),
+    ("the end tag html", end("html"), EMPTY, 0, 2),
+    ("an end tag without a name", record(10, 0), EMPTY, 0, 2),
+    ("a p is closed with what is in it, once", element("body") + element("p") + element("b") + CLOSE_P + text(1) + CLOSE_P,
+     EMPTY + ["|   <body>", "|     <p>", "|       <b>", "|     #1"], 5, 3),
+    ("a button hides it", element("body") + element("p") + element("button") + CLOSE_P,
+     EMPTY + ["|   <body>", "|     <p>", "|       <button>"], 3, 3),
+    ("a cell is closed, and the list cleared", MARKER * 255 + element("table") + element("tr") + element("td") + MARKER + element("b")
+     + CLOSE_CELL + comment(0, 1) + MARKER + MARKER,
+     EMPTY + ["|   <table>", "|     <tr>", "|       <td>", "|         <b>", "|       <!-- #1 -->"], 263, 6),
+    ("no cell", element("table") + CLOSE_CELL, EMPTY + ["|   <table>"], 1, 3),
+    ("a table hides it", element("table") + element("tr") + element("th") + element("table") + CLOSE_CELL, None, 4, 3),
+    ("implied end tags", element("dd") + element("p") + implied(0) + text(1), EMPTY + ["|   <dd>", "|     <p>", "|   #1"], 4, 0),
+    ("but one", element("p") + element("li") + implied(0, NUMBER["p"]) + text(1), EMPTY + ["|   <p>", "|     <li>", "|     #1"], 4, 0),
+    ("cursorily a cell stays", element("td") + implied(0) + text(1), EMPTY + ["|   <td>", "|     #1"], 3, 0),
+    ("thoroughly it does not", element("table") + element("tbody") + element("tr") + element("td") + implied(1) + comment(0, 1),
+     EMPTY + ["|   <table>", "|     <tbody>", "|       <tr>", "|         <td>", "|     <!-- #1 -->"], 6, 0),
+    ("a third kind", element("p") + implied(2), EMPTY + ["|   <p>"], 1, 2),
+    ("an unknown exception", element("p") + implied(0, 511), EMPTY + ["|   <p>"], 1, 2),
     ("modes are 1 to 21", mode(1) + mode(21) + mode(22), EMPTY, 2, 2),
     ("mode 0", mode(0), EMPTY, 0, 2),
     ("no mode to pop", mode(1) + UNMODE + UNMODE, EMPTY, 2, 3),

@@ -1,13 +1,14 @@
 -- The call that each number stands for.
 -- Assumes nothing.
 use Prim.Native.Nat.{ℕ, _<_, _≤_}
-use mathlib.Core.Path.{_≡_, refl, sym, _∙_}
+use mathlib.Core.Path.{_≡_}
 use mathlib.Core.List.{List}
-use borrow.Author.Tests.{eq-eqb, ne-eqb, lt-ltb, le-ltb}
+use borrow.Author.Tests.{ne-eqb, lt-ltb, le-ltb}
 use Rattle.state.specs.Full.{Full, Result, refused}
 use Rattle.standard.specs.Insertion.{inserted-element, inserted-text, inserted-comment}
 use Rattle.standard.specs.Small.{marked, cleared, popped, fostered, headed, moded, unmoded}
-use Rattle.standard.specs.Step.{asked, later, lowStep, highStep, step}
+use Rattle.standard.specs.Stack.{ended, closedP, closedCell, implied}
+use Rattle.standard.specs.Step.{asked, later, middleStep, lowStep, highStep, step}
 
 module _ (s : List ℕ) (call a b c from count : ℕ) (f : Full) {x : Result} where
   pub low-1 : call ≡ 1 → x ≡ inserted-element s f a b c from count → x ≡ lowStep s (asked call a b c from count) f
@@ -29,6 +30,27 @@ module _ (s : List ℕ) (call a b c from count : ℕ) (f : Full) {x : Result} wh
   pub low-6 : call ≡ 6 → x ≡ cleared f → x ≡ lowStep s (asked call a b c from count) f
   unfolding lowStep
   low-6 e y = rw e y
+
+  pub low-rest : (call ≡ 1 → ⊥) → (call ≡ 2 → ⊥) → (call ≡ 3 → ⊥) → (call ≡ 5 → ⊥) → (call ≡ 6 → ⊥)
+      → x ≡ middleStep (asked call a b c from count) f → x ≡ lowStep s (asked call a b c from count) f
+  unfolding lowStep
+  low-rest h1 h2 h3 h5 h6 y = simp (ne-eqb _ _ h1, ne-eqb _ _ h2, ne-eqb _ _ h3, ne-eqb _ _ h5, ne-eqb _ _ h6) y
+
+  pub middle-10 : call ≡ 10 → x ≡ ended f a → x ≡ middleStep (asked call a b c from count) f
+  unfolding middleStep
+  middle-10 e y = rw e y
+
+  pub middle-11 : call ≡ 11 → x ≡ closedP f → x ≡ middleStep (asked call a b c from count) f
+  unfolding middleStep
+  middle-11 e y = rw e y
+
+  pub middle-12 : call ≡ 12 → x ≡ closedCell f → x ≡ middleStep (asked call a b c from count) f
+  unfolding middleStep
+  middle-12 e y = rw e y
+
+  pub middle-13 : call ≡ 13 → x ≡ implied f a b → x ≡ middleStep (asked call a b c from count) f
+  unfolding middleStep
+  middle-13 e y = rw e y
 
   pub high-14 : call ≡ 14 → x ≡ popped f → x ≡ highStep (asked call a b c from count) f
   unfolding highStep
@@ -59,9 +81,9 @@ module _ (s : List ℕ) (call a b c from count : ℕ) (f : Full) {x : Result} wh
   step-high h y = simp (le-ltb _ _ h) y
 
 module _ (s : List ℕ) (call a b c from count : ℕ) (f : Full) where
-  pub low-rest : (call ≡ 1 → ⊥) → (call ≡ 2 → ⊥) → (call ≡ 3 → ⊥) → (call ≡ 5 → ⊥) → (call ≡ 6 → ⊥) → refused 2 f ≡ lowStep s (asked call a b c from count) f
-  unfolding lowStep later
-  low-rest h1 h2 h3 h5 h6 = simp (ne-eqb _ _ h1, ne-eqb _ _ h2, ne-eqb _ _ h3, ne-eqb _ _ h5, ne-eqb _ _ h6)
+  pub middle-rest : (call ≡ 10 → ⊥) → (call ≡ 11 → ⊥) → (call ≡ 12 → ⊥) → (call ≡ 13 → ⊥) → refused 2 f ≡ middleStep (asked call a b c from count) f
+  unfolding middleStep later
+  middle-rest h1 h2 h3 h4 = simp (ne-eqb _ _ h1, ne-eqb _ _ h2, ne-eqb _ _ h3, ne-eqb _ _ h4)
 
   pub high-rest : (call ≡ 14 → ⊥) → (call ≡ 15 → ⊥) → (call ≡ 16 → ⊥) → (call ≡ 17 → ⊥) → (call ≡ 18 → ⊥) → refused 2 f ≡ highStep (asked call a b c from count) f
   unfolding highStep later

@@ -6,11 +6,38 @@ ghost use lib.ListN.{length};
 ghost use Rattle.state.specs.declared.Context.{Context};
 ghost use Rattle.state.specs.Full.{full, result};
 ghost use Rattle.state.specs.Ready.{Ready};
-ghost use Rattle.standard.specs.Step.{asked, lowStep, highStep, step};
+ghost use Rattle.standard.specs.Step.{asked, middleStep, lowStep, highStep, step};
 use builder::insertion;
 use builder::small;
+use stacks::close;
+use stacks::implied;
 use state::Core;
 use state::Done;
+
+// Calls 10 to 13.
+fn middle(
+    h: &mut [u16],
+    core: Core,
+    nodes: &[u8],
+    list: &mut [u16],
+    call: u16,
+    a: u16,
+    b: u16,
+) -> Done
+    requires { ⌜ Ready (now h) (now list) core ⌝ }
+    ensures { λ r. ⌜ ((c from count : ℕ) (m p q : List ℕ) (x : Context) → result (r .answer) (full (now (h .exit)) (r .core) x (now (nodes .entry)) (now (list .exit)) m p q) ≡ middleStep (asked call a b c from count) (full (now (h .entry)) core x (now (nodes .entry)) (now (list .entry)) m p q)) ⌝ }
+{
+    match call {
+        10 => close::process_end_tag_in_body(h, core, nodes, a),
+        11 => close::close_p_element(h, core, nodes),
+        12 => close::close_the_cell(h, core, nodes, list),
+        13 => implied::generate_implied_end_tags(h, core, nodes, a, b),
+        _ => Done {
+            answer: 2,
+            core: core,
+        },
+    }
+}
 
 // Calls 1 to 13.
 fn low(
@@ -37,10 +64,7 @@ fn low(
         3 => insertion::comment(h, core, nodes, a, b),
         5 => small::marker(core, list),
         6 => small::clear(core, list),
-        _ => Done {
-            answer: 2,
-            core: core,
-        },
+        _ => middle(h, core, nodes, list, call, a, b),
     }
 }
 

@@ -4,6 +4,7 @@ pub mod Front
 pub mod Search
 pub mod Parts
 pub mod Small
+pub mod Stack
 pub mod Edge
 pub mod Same
 pub mod Pieces
@@ -18,6 +19,7 @@ pub mod Template
 pub mod Element
 pub mod Step
 pub mod Begin
+pub mod Fair
 pub mod Never
 pub mod Met
 pub mod Tree

@@ -5,139 +5,26 @@
 use Prim.Native.Nat.{ℕ, zero, suc, _+_, _-_, _≤_, min}
 use mathlib.Core.Path.{_≡_, refl}
 use mathlib.Core.Logic.{_≢_, _⊎_, inl, inr}
-use mathlib.Core.Bool.{Bool, true, false, cond, not, _&&_, _||_}
+use mathlib.Core.Bool.{Bool, true, false, cond}
 use mathlib.Core.List.{List}
 use native.Mathlib.Omega.{arith}
 use lib.ListN.{length}
 use lib.Dec.{eqb, ltb}
 use borrow.Author.Tests.{ltb-false, eqb-true, eqb-false, ne-eqb}
-use Rattle.arena.specs.Make.{nodesOf}
-use Rattle.arena.specs.Room.{freeNodes, freePieces, freePairs}
-use Rattle.arena.specs.declared.make.Tag.{Tag}
+use Rattle.arena.specs.Room.{freeNodes}
 use Rattle.records.specs.declared.Item.{Item}
 use Rattle.records.specs.declared.Item.the-variants as is
 use Rattle.records.specs.Record.{itemAt}
 use Rattle.records.proofs.Past.{item-past}
 use Rattle.state.specs.declared.State.{State}
 use Rattle.state.specs.declared.Context.{Context}
-use Rattle.state.specs.Full.{Full, Result, refused, done}
-use Rattle.standard.specs.declared.Place.{Place}
-use Rattle.standard.specs.Place.{textBefore}
-use Rattle.standard.specs.Insertion.{usualPlace, badTag, badPairs, elementDone, elementRoom, inserted-element, joinedText, newText, textAt, inserted-text, commentAt, inserted-comment}
-use Rattle.standard.specs.Small.{room, marked, cleared, popped, fostered, headed, moded, unmoded}
-use Rattle.standard.specs.Step.{Asked, asked, later, lowStep, highStep, step}
+use Rattle.state.specs.Full.{Full}
+use Rattle.standard.specs.Step.{Asked, asked, step}
 use Rattle.standard.specs.Begin.{badContext, firstModes, beginAnswer, begun, beginOf}
 use Rattle.standard.specs.Run.{Ran, ran, unlessRefused, onItem, runFor, runFrom, runOf, onSingle, single}
+use Rattle.kept.specs.Fair.{Answer, step-fair}
 
 -- ---- one call
-
--- the answer is 0, or from 2 to k
-pub record Answer (k : ℕ) (n : ℕ) : Type 0 where
-  pub one : (n ≡ 0) ⊎ ((2 ≤ n) × (n ≤ k))
-
--- the call has an answer, and is refused as a whole or done
-pub record Fair (f : Full) (r : Result) : Type 0 where
-  pub answers : Answer 8 (r .answer)
-  pub keeps : r .answer ≢ 0 → r .after ≡ f
-
-fair-yes : (f g : Full) → Fair f (done g)
-fair-yes f g = record { answers = record { one = inl refl }; keeps = λ d. absurd (d refl) }
-
-fair-or : {f : Full} (b : Bool) {x y : Result} → Fair f x → Fair f y → Fair f (cond b x y)
-fair-or true p q = p
-fair-or false p q = q
-
-module _ (f : Full) where
-  no : (k : ℕ) → 2 ≤ k → k ≤ 8 → Fair f (refused k f)
-  no k a b = record { answers = record { one = inr (a, b) }; keeps = λ d. refl }
-
-  fair-room : (t : Tag) (ps : List (ℕ × ℕ)) (push : Bool) → Fair f (elementRoom f t ps push)
-  unfolding elementRoom
-  fair-room t ps push =
-      fair-or (ltb (freeNodes (f .nodes .mem) (f .nodes .used)) (nodesOf t)) (no 4 (omega arith) (omega arith))
-      (fair-or (push && not (ltb (f .stack .size) 512)) (no 5 (omega arith) (omega arith))
-      (fair-or (ltb (freePairs (f .pairs .mem) (f .pairs .used)) (t .count)) (no 8 (omega arith) (omega arith)) (fair-yes f (elementDone f t ps push))))
-
-  fair-element : (s : List ℕ) (ns name flags from count : ℕ) → Fair f (inserted-element s f ns name flags from count)
-  unfolding inserted-element
-  fair-element s ns name flags from count =
-      fair-or (badTag ns name flags || badPairs s from count) (no 2 (omega arith) (omega arith)) (fair-room _ _ _)
-
-  fair-new : (p : Place) (number : ℕ) → Fair f (newText f p number)
-  unfolding newText
-  fair-new p number =
-      fair-or (eqb (freeNodes (f .nodes .mem) (f .nodes .used)) 0) (no 4 (omega arith) (omega arith))
-      (fair-or (eqb (freePieces (f .pieces .mem) (f .pieces .used)) 0) (no 7 (omega arith) (omega arith)) (fair-yes f _))
-
-  fair-joined : (n number : ℕ) → Fair f (joinedText f n number)
-  unfolding joinedText
-  fair-joined n number = fair-or (eqb (freePieces (f .pieces .mem) (f .pieces .used)) 0) (no 7 (omega arith) (omega arith)) (fair-yes f _)
-
-  fair-text : (number : ℕ) → Fair f (inserted-text f number)
-  unfolding inserted-text textAt
-  fair-text number = fair-or (eqb (textBefore (f .nodes .mem) (usualPlace f)) 0) (fair-new _ number) (fair-joined _ number)
-
-  fair-comment : (place number : ℕ) → Fair f (inserted-comment f place number)
-  unfolding inserted-comment commentAt
-  fair-comment place number =
-      fair-or (ltb 2 place) (no 2 (omega arith) (omega arith))
-      (fair-or (eqb (freeNodes (f .nodes .mem) (f .nodes .used)) 0) (no 4 (omega arith) (omega arith)) (fair-yes f _))
-
-  fair-marked : Fair f (marked f)
-  unfolding marked
-  fair-marked = fair-or (ltb (f .list .size) (room 256 (f .list))) (fair-yes f _) (no 6 (omega arith) (omega arith))
-
-  fair-cleared : Fair f (cleared f)
-  unfolding cleared
-  fair-cleared = fair-yes f _
-
-  fair-popped : Fair f (popped f)
-  unfolding popped
-  fair-popped = fair-or (ltb (f .stack .size) 2) (no 3 (omega arith) (omega arith)) (fair-yes f _)
-
-  fair-fostered : (on : ℕ) → Fair f (fostered f on)
-  unfolding fostered
-  fair-fostered on = fair-or (ltb 1 on) (no 2 (omega arith) (omega arith)) (fair-yes f _)
-
-  fair-headed : (on : ℕ) → Fair f (headed f on)
-  unfolding headed
-  fair-headed on = fair-or (ltb 1 on) (no 2 (omega arith) (omega arith)) (fair-yes f _)
-
-  fair-moded : (v : ℕ) → Fair f (moded f v)
-  unfolding moded
-  fair-moded v =
-      fair-or (eqb v 0 || ltb 21 v) (no 2 (omega arith) (omega arith))
-      (fair-or (ltb (f .modes .size) (room 64 (f .modes))) (fair-yes f _) (no 6 (omega arith) (omega arith)))
-
-  fair-unmoded : Fair f (unmoded f)
-  unfolding unmoded
-  fair-unmoded = fair-or (ltb 0 (f .modes .size)) (fair-yes f _) (no 3 (omega arith) (omega arith))
-
-  fair-later : Fair f (later f)
-  unfolding later
-  fair-later = no 2 (omega arith) (omega arith)
-
-  fair-low : (s : List ℕ) (r : Asked) → Fair f (lowStep s r f)
-  unfolding lowStep
-  fair-low s r =
-      fair-or (eqb (r .call) 1) (fair-element s (r .a) (r .b) (r .c) (r .from) (r .count))
-      (fair-or (eqb (r .call) 2) (fair-text (r .a))
-      (fair-or (eqb (r .call) 3) (fair-comment (r .a) (r .b))
-      (fair-or (eqb (r .call) 5) fair-marked
-      (fair-or (eqb (r .call) 6) fair-cleared fair-later))))
-
-  fair-high : (r : Asked) → Fair f (highStep r f)
-  unfolding highStep
-  fair-high r =
-      fair-or (eqb (r .call) 14) fair-popped
-      (fair-or (eqb (r .call) 15) (fair-fostered (r .a))
-      (fair-or (eqb (r .call) 16) (fair-moded (r .a))
-      (fair-or (eqb (r .call) 17) fair-unmoded
-      (fair-or (eqb (r .call) 18) (fair-headed (r .a)) fair-later))))
-
-  pub step-fair : (s : List ℕ) (r : Asked) → Fair f (step s r f)
-  unfolding step
-  step-fair s r = fair-or (ltb (r .call) 14) (fair-low s r) (fair-high r)
 
 -- a call answers 0, 2, 3, 4, 5, 6, 7 or 8
 pub step-answers : (s : List ℕ) (r : Asked) (f : Full) → Answer 8 (step s r f .answer)

@@ -1,6 +1,6 @@
 -- The calls that touch places and flags alone keep a sound state sound.
 -- Assumes nothing.
-use Prim.Native.Nat.{ℕ, _+_, _-_, _≤_, min}
+use Prim.Native.Nat.{ℕ, _+_, _-_, _<_, _≤_, min}
 use mathlib.Core.Path.{_≡_, refl, _∙_}
 use mathlib.Core.Bool.{_||_}
 use native.Mathlib.Omega.{arith}
@@ -10,7 +10,7 @@ use borrow.Author.Tests.{ltb-true, ltb-false, eqb-false}
 use Rattle.places.specs.Places.{pushed, cut, placeOf, lastWith, down, same, never}
 use Rattle.places.specs.declared.Found.{Found}
 use Rattle.places.specs.declared.Found.the-variants.{At, Nothing}
-use Rattle.state.specs.Full.{Full, refused, withList}
+use Rattle.state.specs.Full.{Full, refused, withStack, withList}
 use Rattle.sound.specs.State.{SoundFull}
 use Rattle.standard.specs.Small.{room, marked, clearedAt, cleared, popped, fostered, headed, moded, unmoded, MARKER}
 use Rattle.kept.specs.Keeps.{Keeps, either, or-false}
@@ -25,7 +25,7 @@ module _ (f : Full) (s : SoundFull f) where
       list-sound f s (cut (f .list) i) (cut-whole (f .list) (s .list) i h) (omega (arith, s .sound .places .entries))
       (entries-front (s .sound .entries) h (front-take (f .list .held) i))
 
-  same-sound : (k : ℕ) → Keeps (refused k f)
+  pub same-sound : (k : ℕ) → Keeps (refused k f)
   same-sound k = record { sound = s }
 
   pub marked-sound : SoundFull (marked f .after)
@@ -47,25 +47,24 @@ module _ (f : Full) (s : SoundFull f) where
       by Nothing e = cut-list 0 (omega arith)
       by (At i) e = cut-list i (omega (arith, down-at (same MARKER) never (f .list .held) (length (f .list .held)) i e .below, s .list .all))
 
+  -- a stack cut past its first entry
+  pub cut-stack : (i : ℕ) → 0 < i → i ≤ f .stack .size → SoundFull (withStack f (cut (f .stack) i))
+  unfolding cut
+  cut-stack i h le =
+      let w = cut-whole (f .stack) (s .stack) i le in
+      stack-sound f s (cut (f .stack) i) w (cut-total (f .stack) (s .stack) i le ∙ s .places)
+      (order-front (s .sound .tree .order) (s .sound .places .stack .1) le (omega (arith, w .all)) (front-take (f .stack .held) i))
+      (open-front (s .sound .tree .stack) h le (front-take (f .stack .held) i))
+
   pub popped-sound : SoundFull (popped f .after)
-  unfolding popped cut
+  unfolding popped
   popped-sound = k .sound
     where
-      i : ℕ
-      i = f .stack .size - 1
-
       k : Keeps (popped f)
       k =
           either (ltb (f .stack .size) 2) (λ e. same-sound 3)
-          (λ e.
-          let h = ltb-false (f .stack .size) 2 e in
-          let w = cut-whole (f .stack) (s .stack) i (omega arith) in
-          record {
-            sound =
-                stack-sound f s (cut (f .stack) i) w (cut-total (f .stack) (s .stack) i (omega arith) ∙ s .places)
-                (order-front (s .sound .tree .order) (s .sound .places .stack .1) (omega arith) (omega (arith, w .all)) (front-take (f .stack .held) i))
-                (open-front (s .sound .tree .stack) (omega (arith, h)) (omega arith) (front-take (f .stack .held) i));
-          })
+          (λ e. let h = ltb-false (f .stack .size) 2 e in
+          record { sound = cut-stack (f .stack .size - 1) (omega (arith, h)) (omega arith) })
 
   pub fostered-sound : (on : ℕ) → SoundFull (fostered f on .after)
   unfolding fostered

@@ -1,10 +1,9 @@
 -- Every call by its number, and so every run, keeps a sound state sound. What the calls rely on holds in a sound state.
 -- Assumes nothing.
-use Prim.Native.Nat.{ℕ, zero, suc, _+_, _-_, _<_, _≤_}
-use mathlib.Core.Path.{_≡_, refl, sym, ap, _∙_}
+use Prim.Native.Nat.{ℕ, zero, suc, _+_, _-_, _≤_}
+use mathlib.Core.Path.{sym, ap, _∙_}
 use mathlib.Core.Bool.{Bool, true, false, cond}
-use mathlib.Core.List.{List, _++_}
-use native.Mathlib.Omega.{arith}
+use mathlib.Core.List.{List}
 use lib.ListN.{length, take, drop, length-append, take-append-drop}
 use lib.Dec.{eqb, ltb}
 use Rattle.places.specs.Places.{placesOf}
@@ -14,12 +13,13 @@ use Rattle.records.specs.declared.Item.the-variants as is
 use Rattle.records.specs.Record.{itemAt}
 use Rattle.state.specs.declared.Core.{Core}
 use Rattle.state.specs.declared.Context.{Context}
-use Rattle.state.specs.Full.{Full, Result, full, result, refused}
+use Rattle.state.specs.Full.{Full, Result, full}
 use Rattle.state.specs.Ready.{Ready}
 use Rattle.sound.specs.State.{SoundFull}
-use Rattle.standard.specs.Step.{Asked, asked, later, lowStep, highStep, step}
-use Rattle.standard.specs.Run.{Ran, ran, unlessRefused, onItem, runFor, runFrom, runOf, onSingle, single}
+use Rattle.standard.specs.Step.{Asked, asked, later, middleStep, lowStep, highStep, step}
+use Rattle.standard.specs.Run.{ran, unlessRefused, onItem, runFor, runFrom, runOf, onSingle, single}
 use Rattle.kept.specs.Small.{marked-sound, cleared-sound, popped-sound, fostered-sound, headed-sound, moded-sound, unmoded-sound}
+use Rattle.kept.specs.Stack.{implied-sound, closed-p-sound, closed-cell-sound, ended-sound}
 use Rattle.kept.specs.Insert.{inserted-comment-sound, inserted-text-sound}
 use Rattle.kept.specs.Element.{inserted-element-sound}
 
@@ -33,6 +33,14 @@ module _ (f : Full) (ok : SoundFull f) where
   unfolding later
   later-sound = ok
 
+  middle-sound : (r : Asked) → SoundFull (middleStep r f .after)
+  unfolding middleStep
+  middle-sound r =
+      both (eqb (r .call) 10) _ _ (ended-sound f ok (r .a))
+      (both (eqb (r .call) 11) _ _ (closed-p-sound f ok)
+      (both (eqb (r .call) 12) _ _ (closed-cell-sound f ok)
+      (both (eqb (r .call) 13) _ _ (implied-sound f ok (r .a) (r .b)) later-sound)))
+
   low-sound : (s : List ℕ) (r : Asked) → SoundFull (lowStep s r f .after)
   unfolding lowStep
   low-sound s r =
@@ -40,7 +48,7 @@ module _ (f : Full) (ok : SoundFull f) where
       (both (eqb (r .call) 2) _ _ (inserted-text-sound f ok (r .a))
       (both (eqb (r .call) 3) _ _ (inserted-comment-sound f ok (r .a) (r .b))
       (both (eqb (r .call) 5) _ _ (marked-sound f ok)
-      (both (eqb (r .call) 6) _ _ (cleared-sound f ok) later-sound))))
+      (both (eqb (r .call) 6) _ _ (cleared-sound f ok) (middle-sound r)))))
 
   high-sound : (r : Asked) → SoundFull (highStep r f .after)
   unfolding highStep

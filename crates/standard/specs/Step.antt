@@ -7,6 +7,7 @@ use lib.Dec.{eqb, ltb}
 use Rattle.state.specs.Full.{Full, Result, refused}
 use Rattle.standard.specs.Insertion.{inserted-element, inserted-text, inserted-comment}
 use Rattle.standard.specs.Small.{marked, cleared, popped, fostered, headed, moded, unmoded}
+use Rattle.standard.specs.Stack.{ended, closedP, closedCell, implied}
 
 -- the call's number, its arguments, and where in the record its pairs begin and how many they are
 pub record Asked : Type 0 where
@@ -20,11 +21,20 @@ pub record Asked : Type 0 where
 abbrev pub asked : ℕ → ℕ → ℕ → ℕ → ℕ → ℕ → Asked
 asked call a b c from count = record { call = call; a = a; b = b; c = c; from = from; count = count }
 
--- calls 4 and 7 to 13 are not taken yet
+-- calls 4 and 7 to 9 are not taken yet
 unfoldable pub later : Full → Result
 later f = refused 2 f
 
--- s is the input that holds the record
+-- calls 10 to 13
+unfoldable pub middleStep : Asked → Full → Result
+middleStep r f =
+    cond (eqb (r .call) 10) (ended f (r .a))
+    (cond (eqb (r .call) 11) (closedP f)
+    (cond (eqb (r .call) 12) (closedCell f)
+    (cond (eqb (r .call) 13) (implied f (r .a) (r .b))
+    (later f))))
+
+-- calls 1 to 13; s is the input that holds the record
 unfoldable pub lowStep : List ℕ → Asked → Full → Result
 lowStep s r f =
     cond (eqb (r .call) 1) (inserted-element s f (r .a) (r .b) (r .c) (r .from) (r .count))
@@ -32,8 +42,9 @@ lowStep s r f =
     (cond (eqb (r .call) 3) (inserted-comment f (r .a) (r .b))
     (cond (eqb (r .call) 5) (marked f)
     (cond (eqb (r .call) 6) (cleared f)
-    (later f)))))
+    (middleStep r f)))))
 
+-- calls 14 to 18
 unfoldable pub highStep : Asked → Full → Result
 highStep r f =
     cond (eqb (r .call) 14) (popped f)

@@ -20,6 +20,9 @@ marker-requires c κs = search needs
 clear-requires : tie.Need-clear-requires
 clear-requires c κs = search needs
 
+middle-requires : tie.Need-middle-requires
+middle-requires c κs = search needs
+
 same-length : tie.Need-same-length
 same-length c = search needs
 
@@ -65,8 +68,17 @@ same-length-10 c = search needs
 returns-5 : tie.Need-returns-5
 returns-5 c = λ m x. number.low-6 _ _ _ _ _ _ _ _ ((c .before .before .before .before .match) .keys5) ((c .before .before .clear) .ensures _ _ m _ _ x)
 
+same-length-11 : tie.Need-same-length-11
+same-length-11 c = search needs
+
+same-length-12 : tie.Need-same-length-12
+same-length-12 c = search needs
+
+same-length-13 : tie.Need-same-length-13
+same-length-13 c = search needs
+
 returns-6 : tie.Need-returns-6
-returns-6 c = λ m x. number.low-rest _ _ _ _ _ _ _ _ ((c .match) .rest .0 .0 .0 .0 .1) ((c .match) .rest .0 .0 .0 .1) ((c .match) .rest .0 .0 .1) ((c .match) .rest .0 .1) ((c .match) .rest .1)
+returns-6 c = λ m x. number.low-rest _ _ _ _ _ _ _ _ ((c .before .before .before .before .before .before .before .before .match) .rest .0 .0 .0 .0 .1) ((c .before .before .before .before .before .before .before .before .match) .rest .0 .0 .0 .1) ((c .before .before .before .before .before .before .before .before .match) .rest .0 .0 .1) ((c .before .before .before .before .before .before .before .before .match) .rest .0 .1) ((c .before .before .before .before .before .before .before .before .match) .rest .1) ((c .before .before .before .before .middle) .ensures _ _ _ m _ _ x)
 
 pub low-spec : {M : Type 1} → statement M
 low-spec =
@@ -77,6 +89,7 @@ low-spec =
     comment-requires
     marker-requires
     clear-requires
+    middle-requires
     same-length
     same-length-2
     same-length-3
@@ -92,4 +105,7 @@ low-spec =
     returns-4
     same-length-10
     returns-5
+    same-length-11
+    same-length-12
+    same-length-13
     returns-6)
