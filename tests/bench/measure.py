@@ -1,9 +1,10 @@
-"""Instructions for each record of a run of insertions: the proved program against plain Rust (plain.rs).
+"""Instructions and time for each record of a run of insertions: the proved program against plain Rust (plain.rs).
 
     python3 tests/bench/measure.py target/bin/dozenpurse
 
 Counts what each executes before its first write, by valgrind's callgrind, for a run and for no input; the difference over the records is
-the cost of a record. Both must answer alike. Needs rustc and valgrind."""
+the cost of a record. Time is taken from the last read to the first write (clock.c), the least of many starts, less that for no input.
+Both must answer alike. Needs rustc, gcc and valgrind."""
 import os
 import pathlib
 import re
@@ -52,22 +53,36 @@ def count(program, given, folder):
     return total, re.search(r"records \d+ answer \d+", out.strip().split("\n")[-1]).group(0)
 
 
+def time(program, given, clock, starts=1000):
+    """Nanoseconds from the last read to the first write, the least of many starts: what else runs only adds to it."""
+    env = dict(os.environ, LD_PRELOAD=str(clock))
+    return min(
+        int(subprocess.run(["taskset", "-c", "1", program], input=given, stdout=subprocess.DEVNULL, stderr=subprocess.PIPE, env=env).stderr) for _ in range(starts))
+
+
 def main():
     proved = pathlib.Path(sys.argv[1]).resolve()
     worst = 0
     with tempfile.TemporaryDirectory() as name:
         folder = pathlib.Path(name)
         plain = build(folder)
+        clock = folder / "clock.so"
+        subprocess.run(["gcc", "-O2", "-shared", "-fPIC", "-o", clock, HERE / "clock.c", "-ldl"], check=True)
         none = {p: count(p, b"", folder)[0] for p in (proved, plain)}
+        idle = {p: time(p, b"", clock) for p in (proved, plain)}
         for label, given in RUNS.items():
-            cost, said = {}, {}
+            cost, said, spent = {}, {}, {}
             for p in (proved, plain):
                 total, said[p] = count(p, given, folder)
-                cost[p] = (total - none[p]) / int(said[p].split()[1])
+                done = int(said[p].split()[1])
+                cost[p] = (total - none[p]) / done
+                spent[p] = (time(p, given, clock) - idle[p]) / done
             assert said[proved] == said[plain], (label, said)
             ratio = cost[proved] / cost[plain]
-            worst = max(worst, ratio)
-            print(f"{label}: {cost[proved]:.0f} against {cost[plain]:.0f} instructions a record, ratio {ratio:.2f}")
+            slower = spent[proved] / spent[plain]
+            worst = max(worst, ratio, slower)
+            print(f"{label}: {cost[proved]:.0f} against {cost[plain]:.0f} instructions, ratio {ratio:.2f}; "
+                  f"{spent[proved]:.0f} against {spent[plain]:.0f} ns, ratio {slower:.2f}")
     print(f"worst ratio {worst:.2f}")
 
 
