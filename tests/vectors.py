@@ -39,7 +39,11 @@ def comment(at, v):
     return record(3, at, v)
 
 
-MARKER, CLEAR, POP, UNMODE = record(5), record(6), record(14), record(17)
+def formatting(name, pairs=()):
+    return record(4, NUMBER[name], len(pairs), *[v for pair in pairs for v in pair])
+
+
+MARKER, CLEAR, RECONSTRUCT, POP, UNMODE = record(5), record(6), record(7), record(14), record(17)
 CLOSE_P, CLOSE_CELL = record(11), record(12)
 
 
@@ -135,6 +139,31 @@ PROGRAM = [
      EMPTY + ["|   <table>", "|     <tbody>", "|       <tr>", "|         <td>", "|     <!-- #1 -->"], 6, 0),
     ("a third kind", element("p") + implied(2), EMPTY + ["|   <p>"], 1, 2),
     ("an unknown exception", element("p") + implied(0, 511), EMPTY + ["|   <p>"], 1, 2),
+    ("a formatting element", element("body") + formatting("b", [(600, 7)]) + text(1),
+     EMPTY + ["|   <body>", "|     <b>", "|       @600=#7", "|       #1"], 3, 0),
+    ("a name that is no formatting one", formatting("div"), EMPTY, 0, 2),
+    ("a formatting element's attribute twice", formatting("b", [(600, 7), (600, 7)]), EMPTY, 0, 2),
+    ("its seventeen attributes", formatting("b", SIXTEEN + [(616, 7)]), EMPTY, 0, 2),
+    ("nothing to reconstruct", RECONSTRUCT + formatting("b") + RECONSTRUCT + text(1), EMPTY + ["|   <b>", "|     #1"], 4, 0),
+    ("reconstructed with its attributes, once", element("p") + formatting("b", [(600, 7)]) + formatting("i") + CLOSE_P + RECONSTRUCT + RECONSTRUCT + text(1),
+     EMPTY + ["|   <p>", "|     <b>", "|       @600=#7", "|       <i>", "|   <b>", "|     @600=#7", "|     <i>", "|       #1"], 7, 0),
+    ("not past a marker", formatting("b") + POP + MARKER + RECONSTRUCT + comment(0, 1), EMPTY + ["|   <b>", "|   <!-- #1 -->"], 5, 0),
+    ("not past an open one", formatting("b") + POP + formatting("i") + RECONSTRUCT + text(1), EMPTY + ["|   <b>", "|   <i>", "|     #1"], 5, 0),
+    ("a fourth equal tag drops the first", element("p") + formatting("b") * 4 + CLOSE_P + RECONSTRUCT + text(1),
+     EMPTY + ["|   <p>", "|     <b>", "|       <b>", "|         <b>", "|           <b>", "|   <b>", "|     <b>", "|       <b>", "|         #1"], 8, 0),
+    ("with a marker between, none", element("p") + formatting("b") * 3 + MARKER + formatting("b") + CLOSE_P + CLEAR + RECONSTRUCT + text(1),
+     EMPTY + ["|   <p>", "|     <b>", "|       <b>", "|         <b>", "|           <b>", "|   <b>", "|     <b>", "|       <b>", "|         #1"], 10, 0),
+    ("nor with attributes in another order", element("p") + formatting("b", [(600, 1), (601, 2)]) * 3 + formatting("b", [(601, 2), (600, 1)]) + CLOSE_P
+     + MARKER * 252 + MARKER, None, 258, 6),
+    ("in the same order one", element("p") + formatting("b", [(600, 1), (601, 2)]) * 4 + CLOSE_P + MARKER * 253 + MARKER, None, 259, 6),
+    ("the freed place counts", MARKER * 252 + formatting("b") * 3 + formatting("i") + formatting("b") + formatting("u"), None, 257, 6),
+    ("a last node for a formatting element", B * 2045 + formatting("b") + formatting("b"), None, 2046, 4),
+    ("a last place for one", element("i") * 510 + formatting("b") + formatting("b"), None, 511, 5),
+    ("no pair for one", element("b", 0, pairs=SIXTEEN) * 256 + formatting("b") + formatting("b", [(600, 7)]), None, 257, 8),
+    ("two nodes to reconstruct two", element("p") + formatting("b") + formatting("i") + CLOSE_P + B * 2041 + RECONSTRUCT, None, 2046, 0),
+    ("one is too few", element("p") + formatting("b") + formatting("i") + CLOSE_P + B * 2042 + RECONSTRUCT, None, 2046, 4),
+    ("a place to reconstruct one", formatting("b") + POP + element("i") * 510 + RECONSTRUCT, None, 513, 0),
+    ("none", formatting("b") + POP + element("i") * 511 + RECONSTRUCT, None, 513, 5),
     ("modes are 1 to 21", mode(1) + mode(21) + mode(22), EMPTY, 2, 2),
     ("mode 0", mode(0), EMPTY, 0, 2),
     ("no mode to pop", mode(1) + UNMODE + UNMODE, EMPTY, 2, 3),

@@ -14,7 +14,7 @@ from model.serve import RESET, serve
 from model.state import Refused
 
 # Calls that are not taken yet.
-LATER = (4, 7, 8, 9)
+LATER = (8, 9)
 
 
 def later(*_):

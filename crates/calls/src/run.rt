@@ -6,7 +6,6 @@ ghost use Rattle.state.specs.Full.{full, result, refused};
 ghost use Rattle.standard.specs.Run.{ran, runOf};
 ghost use Rattle.standard.specs.Run as def;
 ghost use Rattle.calls.specs.Public.{whole, Checked};
-use crate::dispatch;
 use records::Item;
 use state::Context;
 use state::Core;

@@ -122,16 +122,16 @@ module _ (s n l m p q : List ℕ) (x : Context) (c : Core) where
 plainName : ℕ → Bool
 plainName k = isName k && (not (eqb k tag.html) && not (eqb k tag.template))
 
-record Plain (name : ℕ) : Type 0 where
-  known : isName name ≡ true
-  no-html : eqb name tag.html ≡ false
-  no-template : eqb name tag.template ≡ false
+pub record Plain (name : ℕ) : Type 0 where
+  pub known : isName name ≡ true
+  pub no-html : eqb name tag.html ≡ false
+  pub no-template : eqb name tag.template ≡ false
 
 is-false : (b : Bool) → T (not b) → b ≡ false
 is-false true t = absurd t
 is-false false t = refl
 
-formatting-plain : (name : ℕ) → isIn Formatting space.html name ≡ true → Plain name
+pub formatting-plain : (name : ℕ) → isIn Formatting space.html name ≡ true → Plain name
 unfolding plainName formatting isName inTable
 formatting-plain name e =
     let a = and-yes (isName name) (not (eqb name tag.html) && not (eqb name tag.template)) (every-at plainName formatting tt name e) in

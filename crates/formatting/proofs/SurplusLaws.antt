@@ -106,15 +106,19 @@ before-lt p (x ∷ xs) h = by (p x) refl (before-lt p xs)
         let y : before p xs < length xs = r (omega arith) in
         omega arith
 
-pub surplus-lt : (p : ℕ → Bool) (l : List ℕ) (size i : ℕ) {o : Found} → size ≤ length l → o ≡ surplus p (placesOf l size) → o ≡ At i → i < size
-unfolding surplus placesOf
-surplus-lt p l size i le eo h = by (ltb 2 (howMany p (drop (afterMarker (placesOf l size)) (take size l)))) refl (sym eo ∙ h)
+pub surplus-below : (p : ℕ → Bool) (l : Places) (i : ℕ) → surplus p l ≡ At i → i < length (l .held)
+unfolding surplus
+surplus-below p l i h = by (ltb 2 (howMany p (drop (afterMarker l) (l .held)))) refl h
   where
-    by : (b : Bool) → ltb 2 (howMany p (drop (afterMarker (placesOf l size)) (take size l))) ≡ b
-        → cond b (At (afterMarker (placesOf l size) + before p (drop (afterMarker (placesOf l size)) (take size l)))) Nothing ≡ At i → i < size
+    by : (b : Bool) → ltb 2 (howMany p (drop (afterMarker l) (l .held))) ≡ b → cond b (At (afterMarker l + before p (drop (afterMarker l) (l .held)))) Nothing ≡ At i
+        → i < length (l .held)
     by false e f = let z : _≡_ {A = ℕ} 0 1 = cc in absurd (omega arith)
     by true e f =
-        let g : afterMarker (placesOf l size) + before p (drop (afterMarker (placesOf l size)) (take size l)) ≡ i = cc in
-        let y : before p (drop (afterMarker (placesOf l size)) (take size l)) < length (drop (afterMarker (placesOf l size)) (take size l))
-        = before-lt p (drop (afterMarker (placesOf l size)) (take size l)) (omega (arith, ltb-true 2 (howMany p (drop (afterMarker (placesOf l size)) (take size l))) e)) in
-        omega (arith, length-drop (afterMarker (placesOf l size)) (take size l), length-take-le size l le)
+        let g : afterMarker l + before p (drop (afterMarker l) (l .held)) ≡ i = cc in
+        let y : before p (drop (afterMarker l) (l .held)) < length (drop (afterMarker l) (l .held))
+        = before-lt p (drop (afterMarker l) (l .held)) (omega (arith, ltb-true 2 (howMany p (drop (afterMarker l) (l .held))) e)) in
+        omega (arith, length-drop (afterMarker l) (l .held))
+
+pub surplus-lt : (p : ℕ → Bool) (l : List ℕ) (size i : ℕ) {o : Found} → size ≤ length l → o ≡ surplus p (placesOf l size) → o ≡ At i → i < size
+unfolding placesOf
+surplus-lt p l size i le eo h = omega (arith, surplus-below p (placesOf l size) i (sym eo ∙ h), length-take-le size l le)

@@ -19,10 +19,8 @@ use Rattle.arena.specs.Room.{freeNodes, freePairs}
 use Rattle.arena.specs.Make.{isTemplate, nodesOf, plain}
 use Rattle.arena.specs.declared.make.Tag.{Tag}
 use Rattle.arena.proofs.Laws.{element-plain, element-template, nodes-one, nodes-two}
-use Rattle.arena.proofs.Made.{plain-made, plain-fields}
 use Rattle.arena.proofs.Ancestors.{kind-free}
 use Rattle.nodes.specs.Nodes as nodes
-use Rattle.nodes.specs.Nodes.{Ties}
 use Rattle.state.specs.Full.{Full, withNodes, withPairs}
 use Rattle.sound.specs.State.{SoundFull}
 use Rattle.standard.specs.Pairs.{pairsIn, fine, stored}
@@ -33,7 +31,8 @@ use Rattle.kept.specs.Parts.{Over, pairs-sound, opened-sound}
 use Rattle.kept.specs.Pieces.{words-other}
 use Rattle.kept.specs.Attach.{attached-field}
 use Rattle.kept.specs.Usual.{place-usual}
-use Rattle.kept.specs.Fresh.{Tagged, Allowed, fresh-element}
+use Rattle.kept.specs.Fresh.{Allowed}
+use Rattle.kept.specs.Copy.{plain-is, plain-has, plain-kind}
 use Rattle.kept.specs.Grow.{made-old, old-texts, grown-sound, grown-order}
 use Rattle.kept.specs.Template.{pair-tagged, template-sound, template-order}
 use Rattle.kept.specs.Attributes.{length-pairs, stored-distinct, stored-sound}
@@ -58,7 +57,7 @@ good-tag ns name flags e =
           (one, eqb-true _ _ (t .0), eqb-true _ _ (t .1));
     }
 
-good-pairs : (s : List ℕ) (from count : ℕ) → badPairs s from count ≡ false → (count ≤ 16) × (fine [] (pairsIn s from count) ≡ true)
+pub good-pairs : (s : List ℕ) (from count : ℕ) → badPairs s from count ≡ false → (count ≤ 16) × (fine [] (pairsIn s from count) ≡ true)
 unfolding badPairs
 good-pairs s from count e =
     let a = or-false (ltb 16 count) _ e in
@@ -67,13 +66,6 @@ good-pairs s from count e =
 is-template : (t : Tag) → isTemplate t ≡ true → (t .space ≡ space.html) × (t .name ≡ tag.template)
 unfolding isTemplate
 is-template t e = let a = and-true (eqb (t .space) 0) _ e in (eqb-true _ _ (a .0), eqb-true _ _ (a .1))
-
-not-template : (t : Tag) → isTemplate t ≡ false → t .space ≡ space.html → t .name ≡ tag.template → ⊥
-unfolding isTemplate
-not-template t e a b =
-    let z : _≡_ {A = Bool} true false = sym (rw (eq-eqb (t .space) 0 a, eq-eqb (t .name) tag.template b)) ∙ e in
-    let n : _≡_ {A = ℕ} 0 1 = cc in
-    omega arith
 
 -- ---- the new element
 
@@ -101,22 +93,19 @@ module _ (f : Full) (s : SoundFull f) (t : Tag) (ps : List (ℕ × ℕ)) (may : 
   unfolding elementIn withPairs withNodes
   plain-placed e h =
       let a = place-usual f s in
-      let i = held-in NODES (f .nodes .mem) (suc (f .nodes .used)) h in
-      let w = plain-made (f .nodes .mem) (suc (f .nodes .used)) i t in
-      let r = plain-fields (f .nodes .mem) (suc (f .nodes .used)) i t in
+      let n = suc (f .nodes .used) in
+      let w = plain-is (f .nodes .mem) n t h in
+      let r = plain-has (f .nodes .mem) n t h in
+      let y = plain-kind (f .nodes .mem) n t h e allowed in
       let k = r .kind in
-      let is : Tagged (plain (f .nodes .mem) (suc (f .nodes .used)) t) (suc (f .nodes .used)) t
-      = record { kind = r .kind; parent = w .parent; space = r .space; name = r .name; mark = r .mark; start = r .start; count = r .count; piece = r .piece; end = r .end } in
-      let ties : Ties (plain (f .nodes .mem) (suc (f .nodes .used)) t) (suc (f .nodes .used)) (suc (f .nodes .used))
-      = record { tied = λ y. absurd (not-template t e (sym (r .space) ∙ y .space) (sym (r .name) ∙ y .name)); untied = λ y. r .tie } in
       let words = words-other (s .sound .texts) (old-texts (made-old w)) (omega arith) in
       rw (add-one, nodes-one t e, add-one, element-plain (f .nodes .mem) (suc (f .nodes .used)) t e)
       (record {
         sound =
             pairs-sound f s _ _ _ _
-            (grown-sound stored-pairs w h (fresh-element is allowed ties) (omega arith) words (s .sound .sizes .pieces) (usualPlace f) (a .spot) (omega arith) (λ y. a .inner));
+            (grown-sound stored-pairs w h y (omega arith) words (s .sound .sizes .pieces) (usualPlace f) (a .spot) (omega arith) (λ y. a .inner));
         kind = attached-field _ (usualPlace f) _ _ KIND kind-free ∙ r .kind;
-        order = grown-order stored-pairs w h (fresh-element is allowed ties) (omega arith) words (s .sound .sizes .pieces) (usualPlace f) (a .spot);
+        order = grown-order stored-pairs w h y (omega arith) words (s .sound .sizes .pieces) (usualPlace f) (a .spot);
       })
 
   template-placed : isTemplate t ≡ true → suc (suc (f .nodes .used)) < slots NODES (f .nodes .mem) → Placed (elementIn f t ps) (suc (f .nodes .used))
@@ -146,7 +135,7 @@ module _ (f : Full) (s : SoundFull f) (t : Tag) (ps : List (ℕ × ℕ)) (may : 
   unfolding elementIn withPairs withNodes
   same-depth = refl
 
-  element-done : ltb (freeNodes (f .nodes .mem) (f .nodes .used)) (nodesOf t) ≡ false → (push : Bool) → (push && not (ltb (f .stack .size) 512)) ≡ false
+  pub element-done : ltb (freeNodes (f .nodes .mem) (f .nodes .used)) (nodesOf t) ≡ false → (push : Bool) → (push && not (ltb (f .stack .size) 512)) ≡ false
       → SoundFull (elementDone f t ps push)
   unfolding elementDone pushedIf
   element-done h false e = placed h .sound

@@ -1,6 +1,6 @@
 -- Every call, on any bytes and in any state, has one of the answers below, and a call that is refused changes nothing.
 -- Assumes nothing.
-use Prim.Native.Nat.{ℕ, _≤_}
+use Prim.Native.Nat.{ℕ, _-_, _≤_}
 use mathlib.Core.Path.{_≡_, refl}
 use mathlib.Core.Logic.{_≢_, _⊎_, inl, inr}
 use mathlib.Core.Bool.{Bool, true, false, cond, not, _&&_, _||_}
@@ -12,12 +12,14 @@ use Rattle.names.specs.Sets.{ButtonScope, TableScope}
 use Rattle.arena.specs.Make.{nodesOf}
 use Rattle.arena.specs.Room.{freeNodes, freePieces, freePairs}
 use Rattle.arena.specs.declared.make.Tag.{Tag}
+use Rattle.places.specs.Places.{Places}
 use Rattle.state.specs.Full.{Full, Result, refused, done}
 use Rattle.standard.specs.declared.Place.{Place}
 use Rattle.standard.specs.Place.{textBefore}
 use Rattle.standard.specs.Insertion.{usualPlace, badTag, badPairs, elementDone, elementRoom, inserted-element, joinedText, newText, textAt, inserted-text, commentAt, inserted-comment}
 use Rattle.standard.specs.Small.{room, marked, cleared, popped, fostered, headed, moded, unmoded}
 use Rattle.standard.specs.Stack.{named, isCell, inScope, isFound, badImplied, implied, closedP, closedCell, badEndTag, ended}
+use Rattle.standard.specs.Formatting.{badFormatting, createdRoom, createdFor, created, anewRoom, reconstructed}
 use Rattle.standard.specs.Step.{Asked, later, middleStep, lowStep, highStep, step}
 
 -- the answer is 0, or from 2 to k
@@ -71,6 +73,28 @@ module _ (f : Full) where
   fair-comment place number =
       fair-or (ltb 2 place) (no 2 (omega arith) (omega arith))
       (fair-or (eqb (freeNodes (f .nodes .mem) (f .nodes .used)) 0) (no 4 (omega arith) (omega arith)) (fair-yes f _))
+
+  fair-created-room : (t : Tag) (ps : List (ℕ × ℕ)) (l : Places) → Fair f (createdRoom f t ps l)
+  unfolding createdRoom
+  fair-created-room t ps l =
+      fair-or (ltb (freeNodes (f .nodes .mem) (f .nodes .used)) 1) (no 4 (omega arith) (omega arith))
+      (fair-or (not (ltb (f .stack .size) 512)) (no 5 (omega arith) (omega arith))
+      (fair-or (not (ltb (l .size) (room 256 l))) (no 6 (omega arith) (omega arith))
+      (fair-or (ltb (freePairs (f .pairs .mem) (f .pairs .used)) (t .count)) (no 8 (omega arith) (omega arith)) (fair-yes f _))))
+
+  fair-created : (s : List ℕ) (name from count : ℕ) → Fair f (created s f name from count)
+  unfolding created createdFor
+  fair-created s name from count = fair-or (badFormatting s name from count) (no 2 (omega arith) (omega arith)) (fair-created-room _ _ _)
+
+  fair-anew : (i k : ℕ) → Fair f (anewRoom f i k)
+  unfolding anewRoom
+  fair-anew i k =
+      fair-or (ltb (freeNodes (f .nodes .mem) (f .nodes .used)) k) (no 4 (omega arith) (omega arith))
+      (fair-or (ltb (512 - f .stack .size) k) (no 5 (omega arith) (omega arith)) (fair-yes f _))
+
+  fair-reconstructed : Fair f (reconstructed f)
+  unfolding reconstructed
+  fair-reconstructed = fair-anew _ _
 
   fair-marked : Fair f (marked f)
   unfolding marked
@@ -136,8 +160,10 @@ module _ (f : Full) where
       fair-or (eqb (r .call) 1) (fair-element s (r .a) (r .b) (r .c) (r .from) (r .count))
       (fair-or (eqb (r .call) 2) (fair-text (r .a))
       (fair-or (eqb (r .call) 3) (fair-comment (r .a) (r .b))
+      (fair-or (eqb (r .call) 4) (fair-created s (r .a) (r .from) (r .count))
       (fair-or (eqb (r .call) 5) fair-marked
-      (fair-or (eqb (r .call) 6) fair-cleared (fair-middle r)))))
+      (fair-or (eqb (r .call) 6) fair-cleared
+      (fair-or (eqb (r .call) 7) fair-reconstructed (fair-middle r)))))))
 
   fair-high : (r : Asked) → Fair f (highStep r f)
   unfolding highStep
@@ -154,27 +180,33 @@ module _ (f : Full) where
 
 -- ---- the calls that pop: the answers of each
 
-answer-or : {k : ℕ} (b : Bool) (x y : Result) → Answer k (x .answer) → Answer k (y .answer) → Answer k (cond b x y .answer)
-answer-or true x y p q = p
-answer-or false x y p q = q
+-- the answer is 0 or k, and no other
+pub record Either (k n : ℕ) : Type 0 where
+  pub one : (n ≡ 0) ⊎ (n ≡ k)
+
+-- refused with k, or done
+no-or : {k : ℕ} (b : Bool) (f g : Full) → Either k (cond b (refused k f) (done g) .answer)
+no-or true f g = record { one = inr refl }
+no-or false f g = record { one = inl refl }
+
+-- done, or refused with k
+or-no : {k : ℕ} (b : Bool) (f g : Full) → Either k (cond b (done g) (refused k f) .answer)
+or-no true f g = record { one = inl refl }
+or-no false f g = record { one = inr refl }
 
 module _ (f : Full) where
-  -- 10: 0 or 2
-  pub ended-answers : (name : ℕ) → Answer 2 (ended f name .answer)
+  pub ended-answers : (name : ℕ) → Either 2 (ended f name .answer)
   unfolding ended
-  ended-answers name = answer-or (badEndTag name) _ _ (record { one = inr (omega arith, omega arith) }) (record { one = inl refl })
+  ended-answers name = no-or (badEndTag name) f _
 
-  -- 11: no answer past 3
-  pub closed-p-answers : Answer 3 (closedP f .answer)
+  pub closed-p-answers : Either 3 (closedP f .answer)
   unfolding closedP
-  closed-p-answers = answer-or (isFound (inScope ButtonScope (named (f .nodes .mem) tag.p) (f .nodes .mem) (f .stack))) _ _ (record { one = inl refl }) (record { one = inr (omega arith, omega arith) })
+  closed-p-answers = or-no (isFound (inScope ButtonScope (named (f .nodes .mem) tag.p) (f .nodes .mem) (f .stack))) f _
 
-  -- 12: no answer past 3
-  pub closed-cell-answers : Answer 3 (closedCell f .answer)
+  pub closed-cell-answers : Either 3 (closedCell f .answer)
   unfolding closedCell cleared
-  closed-cell-answers = answer-or (isFound (inScope TableScope (isCell (f .nodes .mem)) (f .nodes .mem) (f .stack))) _ _ (record { one = inl refl }) (record { one = inr (omega arith, omega arith) })
+  closed-cell-answers = or-no (isFound (inScope TableScope (isCell (f .nodes .mem)) (f .nodes .mem) (f .stack))) f _
 
-  -- 13: 0 or 2
-  pub implied-answers : (kind except : ℕ) → Answer 2 (implied f kind except .answer)
+  pub implied-answers : (kind except : ℕ) → Either 2 (implied f kind except .answer)
   unfolding implied
-  implied-answers kind except = answer-or (badImplied kind except) _ _ (record { one = inr (omega arith, omega arith) }) (record { one = inl refl })
+  implied-answers kind except = no-or (badImplied kind except) f _

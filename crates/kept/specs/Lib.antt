@@ -16,7 +16,11 @@ pub mod Join
 pub mod Insert
 pub mod Attributes
 pub mod Template
+pub mod Copy
 pub mod Element
+pub mod Entries
+pub mod Formatting
+pub mod Reconstruct
 pub mod Step
 pub mod Begin
 pub mod Fair

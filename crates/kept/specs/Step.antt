@@ -1,10 +1,13 @@
 -- Every call by its number, and so every run, keeps a sound state sound. What the calls rely on holds in a sound state.
 -- Assumes nothing.
-use Prim.Native.Nat.{ℕ, zero, suc, _+_, _-_, _≤_}
-use mathlib.Core.Path.{sym, ap, _∙_}
+use Prim.Native.Nat.{ℕ, zero, suc, _+_, _-_, _≤_, _<_}
+use mathlib.Core.Path.{_≡_, sym, ap, _∙_}
+use mathlib.Core.Logic.{_⊎_, inl, inr}
 use mathlib.Core.Bool.{Bool, true, false, cond}
 use mathlib.Core.List.{List}
-use lib.ListN.{length, take, drop, length-append, take-append-drop}
+use native.Mathlib.Decide.{ℕ-discrete}
+use lib.ListN.{length, getD, take, drop, length-append, take-append-drop}
+use lib.Seq.{getD-take}
 use lib.Dec.{eqb, ltb}
 use Rattle.places.specs.Places.{placesOf}
 use Rattle.places.proofs.Laws.{of-whole}
@@ -15,13 +18,17 @@ use Rattle.state.specs.declared.Core.{Core}
 use Rattle.state.specs.declared.Context.{Context}
 use Rattle.state.specs.Full.{Full, Result, full}
 use Rattle.state.specs.Ready.{Ready}
+use Rattle.sound.specs.Sound.{Entries, MARKER}
 use Rattle.sound.specs.State.{SoundFull}
 use Rattle.standard.specs.Step.{Asked, asked, later, middleStep, lowStep, highStep, step}
 use Rattle.standard.specs.Run.{ran, unlessRefused, onItem, runFor, runFrom, runOf, onSingle, single}
+use Rattle.kept.specs.Usual.{open-inside}
 use Rattle.kept.specs.Small.{marked-sound, cleared-sound, popped-sound, fostered-sound, headed-sound, moded-sound, unmoded-sound}
 use Rattle.kept.specs.Stack.{implied-sound, closed-p-sound, closed-cell-sound, ended-sound}
 use Rattle.kept.specs.Insert.{inserted-comment-sound, inserted-text-sound}
 use Rattle.kept.specs.Element.{inserted-element-sound}
+use Rattle.kept.specs.Formatting.{created-sound}
+use Rattle.kept.specs.Reconstruct.{reconstructed-sound}
 
 -- either call leaves a sound state
 both : (b : Bool) (x y : Result) → SoundFull (x .after) → SoundFull (y .after) → SoundFull (cond b x y .after)
@@ -47,8 +54,10 @@ module _ (f : Full) (ok : SoundFull f) where
       both (eqb (r .call) 1) _ _ (inserted-element-sound f ok s (r .a) (r .b) (r .c) (r .from) (r .count))
       (both (eqb (r .call) 2) _ _ (inserted-text-sound f ok (r .a))
       (both (eqb (r .call) 3) _ _ (inserted-comment-sound f ok (r .a) (r .b))
+      (both (eqb (r .call) 4) _ _ (created-sound f ok s (r .a) (r .from) (r .count))
       (both (eqb (r .call) 5) _ _ (marked-sound f ok)
-      (both (eqb (r .call) 6) _ _ (cleared-sound f ok) (middle-sound r)))))
+      (both (eqb (r .call) 6) _ _ (cleared-sound f ok)
+      (both (eqb (r .call) 7) _ _ (reconstructed-sound f ok) (middle-sound r)))))))
 
   high-sound : (r : Asked) → SoundFull (highStep r f .after)
   unfolding highStep
@@ -103,6 +112,17 @@ runs-sound s f ok = run-sound (length s - 0) s 0 0 f ok
 
 -- ---- what the calls rely on
 
+-- an entry of a sound list is a used node or a marker
+entry-used : {m l : List ℕ} {c k : ℕ} → Entries m c l k → (i : ℕ) → i < k → (getD l i 0 ≤ c) ⊎ (getD l i 0 ≡ MARKER)
+entry-used {l = l} {c} e i b = by (ℕ-discrete (getD l i 0) MARKER)
+  where
+    by : Dec (getD l i 0 ≡ MARKER) → (getD l i 0 ≤ c) ⊎ (getD l i 0 ≡ MARKER)
+    by (yes z) = inr z
+    by (no z) = inl (e .entry i b .used z .1)
+
+at-take : (h : List ℕ) (d i : ℕ) → i < d → getD (take d h) i 0 ≡ getD h i 0
+at-take h d i b = getD-take d h i 0 b
+
 module _ (h n l m p q : List ℕ) (c : Core) (x : Context) (ok : SoundFull (full h c x n l m p q)) where
   pub sound-ready : Ready h l c
   unfolding placesOf
@@ -114,6 +134,9 @@ module _ (h n l m p q : List ℕ) (c : Core) (x : Context) (ok : SoundFull (full
         places = sym (ap length (take-append-drop (c .depth) h)) ∙ length-append (take (c .depth) h) (drop (c .depth) h) ∙ ok .places;
         list = of-whole l (c .counts .list) (ok .list);
         pairs = t .sizes .pairs .0;
+        nodes = t .sizes .nodes .0;
+        used = λ i b. rw (at-take h (c .depth) i b) at (open-inside t i b .used);
+        listed = λ i b. rw (at-take l (c .counts .list) i b) at (entry-used (t .entries) i b);
       }
 
   pub sound-modes : c .counts .modes ≤ length m

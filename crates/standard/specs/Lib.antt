@@ -8,3 +8,4 @@ pub mod Run
 pub mod Begin
 pub mod Stack
 pub mod Formatting
+pub mod Adoption

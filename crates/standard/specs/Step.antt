@@ -8,6 +8,7 @@ use Rattle.state.specs.Full.{Full, Result, refused}
 use Rattle.standard.specs.Insertion.{inserted-element, inserted-text, inserted-comment}
 use Rattle.standard.specs.Small.{marked, cleared, popped, fostered, headed, moded, unmoded}
 use Rattle.standard.specs.Stack.{ended, closedP, closedCell, implied}
+use Rattle.standard.specs.Formatting.{created, reconstructed}
 
 -- the call's number, its arguments, and where in the record its pairs begin and how many they are
 pub record Asked : Type 0 where
@@ -21,7 +22,7 @@ pub record Asked : Type 0 where
 abbrev pub asked : ℕ → ℕ → ℕ → ℕ → ℕ → ℕ → Asked
 asked call a b c from count = record { call = call; a = a; b = b; c = c; from = from; count = count }
 
--- calls 4 and 7 to 9 are not taken yet
+-- calls 8 and 9 are not taken yet
 unfoldable pub later : Full → Result
 later f = refused 2 f
 
@@ -40,9 +41,11 @@ lowStep s r f =
     cond (eqb (r .call) 1) (inserted-element s f (r .a) (r .b) (r .c) (r .from) (r .count))
     (cond (eqb (r .call) 2) (inserted-text f (r .a))
     (cond (eqb (r .call) 3) (inserted-comment f (r .a) (r .b))
+    (cond (eqb (r .call) 4) (created s f (r .a) (r .from) (r .count))
     (cond (eqb (r .call) 5) (marked f)
     (cond (eqb (r .call) 6) (cleared f)
-    (middleStep r f)))))
+    (cond (eqb (r .call) 7) (reconstructed f)
+    (middleStep r f)))))))
 
 -- calls 14 to 18
 unfoldable pub highStep : Asked → Full → Result

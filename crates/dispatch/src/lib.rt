@@ -9,6 +9,8 @@ ghost use Rattle.state.specs.Ready.{Ready};
 ghost use Rattle.standard.specs.Step.{asked, middleStep, lowStep, highStep, step};
 use builder::insertion;
 use builder::small;
+use formatting::create;
+use formatting::reconstruct;
 use stacks::close;
 use stacks::implied;
 use state::Core;
@@ -62,8 +64,20 @@ fn low(
         1 => insertion::element(h, core, nodes, pairs, input, a, b, c, from, count),
         2 => insertion::text(h, core, nodes, pieces, a),
         3 => insertion::comment(h, core, nodes, a, b),
+        4 => create::create_formatting_element_for(
+            h,
+            core,
+            nodes,
+            pairs,
+            list,
+            input,
+            a,
+            from,
+            count,
+        ),
         5 => small::marker(core, list),
         6 => small::clear(core, list),
+        7 => reconstruct::reconstruct_active_formatting_elements(h, core, nodes, list),
         _ => middle(h, core, nodes, list, call, a, b),
     }
 }

@@ -1,10 +1,10 @@
--- `calls::dispatch::high` meets its contract.
+-- `dispatch::high` meets its contract.
 -- Assumes nothing.
 use mathlib.Core.List.{[]}
-use Rattle.calls.proofs.Numbers as number
+use Rattle.dispatch.proofs.Numbers as number
 use borrow.Author.Needs.{needs}
-use Rattle.calls.proofs.dispatch.high.Statement.{statement}
-use Rattle.calls.proofs.dispatch.high.Tie as tie
+use Rattle.dispatch.proofs.high.Statement.{statement}
+use Rattle.dispatch.proofs.high.Tie as tie
 
 pop-requires : tie.Need-pop-requires
 pop-requires c κs = search needs

@@ -1,10 +1,10 @@
--- `calls::dispatch::middle` meets its contract.
+-- `dispatch::middle` meets its contract.
 -- Assumes nothing.
 use mathlib.Core.List.{[]}
-use Rattle.calls.proofs.Numbers as number
+use Rattle.dispatch.proofs.Numbers as number
 use borrow.Author.Needs.{needs}
-use Rattle.calls.proofs.dispatch.middle.Statement.{statement}
-use Rattle.calls.proofs.dispatch.middle.Tie as tie
+use Rattle.dispatch.proofs.middle.Statement.{statement}
+use Rattle.dispatch.proofs.middle.Tie as tie
 
 process-end-tag-in-body-requires : tie.Need-process-end-tag-in-body-requires
 process-end-tag-in-body-requires c κs = search needs

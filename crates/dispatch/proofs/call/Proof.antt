@@ -1,9 +1,9 @@
--- `calls::dispatch::call` meets its contract.
+-- `dispatch::call` meets its contract.
 -- Assumes nothing.
-use Rattle.calls.proofs.Numbers as number
+use Rattle.dispatch.proofs.Numbers as number
 use borrow.Author.Needs.{needs}
-use Rattle.calls.proofs.dispatch.call.Statement.{statement}
-use Rattle.calls.proofs.dispatch.call.Tie as tie
+use Rattle.dispatch.proofs.call.Statement.{statement}
+use Rattle.dispatch.proofs.call.Tie as tie
 
 low-requires : tie.Need-low-requires
 low-requires c κs = search needs

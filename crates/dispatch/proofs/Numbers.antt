@@ -8,6 +8,7 @@ use Rattle.state.specs.Full.{Full, Result, refused}
 use Rattle.standard.specs.Insertion.{inserted-element, inserted-text, inserted-comment}
 use Rattle.standard.specs.Small.{marked, cleared, popped, fostered, headed, moded, unmoded}
 use Rattle.standard.specs.Stack.{ended, closedP, closedCell, implied}
+use Rattle.standard.specs.Formatting.{created, reconstructed}
 use Rattle.standard.specs.Step.{asked, later, middleStep, lowStep, highStep, step}
 
 module _ (s : List ℕ) (call a b c from count : ℕ) (f : Full) {x : Result} where
@@ -23,6 +24,10 @@ module _ (s : List ℕ) (call a b c from count : ℕ) (f : Full) {x : Result} wh
   unfolding lowStep
   low-3 e y = rw e y
 
+  pub low-4 : call ≡ 4 → x ≡ created s f a from count → x ≡ lowStep s (asked call a b c from count) f
+  unfolding lowStep
+  low-4 e y = rw e y
+
   pub low-5 : call ≡ 5 → x ≡ marked f → x ≡ lowStep s (asked call a b c from count) f
   unfolding lowStep
   low-5 e y = rw e y
@@ -31,10 +36,15 @@ module _ (s : List ℕ) (call a b c from count : ℕ) (f : Full) {x : Result} wh
   unfolding lowStep
   low-6 e y = rw e y
 
-  pub low-rest : (call ≡ 1 → ⊥) → (call ≡ 2 → ⊥) → (call ≡ 3 → ⊥) → (call ≡ 5 → ⊥) → (call ≡ 6 → ⊥)
+  pub low-7 : call ≡ 7 → x ≡ reconstructed f → x ≡ lowStep s (asked call a b c from count) f
+  unfolding lowStep
+  low-7 e y = rw e y
+
+  pub low-rest : (call ≡ 1 → ⊥) → (call ≡ 2 → ⊥) → (call ≡ 3 → ⊥) → (call ≡ 4 → ⊥) → (call ≡ 5 → ⊥) → (call ≡ 6 → ⊥) → (call ≡ 7 → ⊥)
       → x ≡ middleStep (asked call a b c from count) f → x ≡ lowStep s (asked call a b c from count) f
   unfolding lowStep
-  low-rest h1 h2 h3 h5 h6 y = simp (ne-eqb _ _ h1, ne-eqb _ _ h2, ne-eqb _ _ h3, ne-eqb _ _ h5, ne-eqb _ _ h6) y
+  low-rest h1 h2 h3 h4 h5 h6 h7 y =
+      simp (ne-eqb _ _ h1, ne-eqb _ _ h2, ne-eqb _ _ h3, ne-eqb _ _ h4, ne-eqb _ _ h5, ne-eqb _ _ h6, ne-eqb _ _ h7) y
 
   pub middle-10 : call ≡ 10 → x ≡ ended f a → x ≡ middleStep (asked call a b c from count) f
   unfolding middleStep
