@@ -43,7 +43,11 @@ def formatting(name, pairs=()):
     return record(4, NUMBER[name], len(pairs), *[v for pair in pairs for v in pair])
 
 
-MARKER, CLEAR, RECONSTRUCT, POP, UNMODE = record(5), record(6), record(7), record(14), record(17)
+def adoption(name):
+    return record(8, NUMBER[name])
+
+
+MARKER, CLEAR, RECONSTRUCT, MISNESTED, POP, UNMODE = record(5), record(6), record(7), record(9), record(14), record(17)
 CLOSE_P, CLOSE_CELL = record(11), record(12)
 
 
@@ -70,6 +74,9 @@ def head(on):
 EMPTY = ["| <html>"]
 B = element("b", 0)
 SIXTEEN = [(600 + i, 7) for i in range(16)]
+
+# Nine times i u s div, no two tags equal: of equal ones only three stay in the list.
+NINE = b"".join(formatting("i", [(600, k)]) + formatting("u", [(600, k)]) + formatting("s", [(600, k)]) + element("div") for k in range(9))
 
 # Records, the lines of the tree (none: not looked at), records done, answer.
 PROGRAM = [
@@ -164,6 +171,35 @@ PROGRAM = [
     ("one is too few", element("p") + formatting("b") + formatting("i") + CLOSE_P + B * 2042 + RECONSTRUCT, None, 2046, 4),
     ("a place to reconstruct one", formatting("b") + POP + element("i") * 510 + RECONSTRUCT, None, 513, 0),
     ("none", formatting("b") + POP + element("i") * 511 + RECONSTRUCT, None, 513, 5),
+    ("document 01's example", element("body") + formatting("b") + element("p") + text(1) + adoption("b") + text(2),
+     EMPTY + ["|   <body>", "|     <b>", "|     <p>", "|       <b>", "|         #1", "|       #2"], 6, 0),
+    ("past counter 3", element("body") + b"".join(formatting(n) for n in "abius") + element("p") + adoption("a"),
+     EMPTY + ["|   <body>", "|     <a>", "|       <b>", "|         <i>", "|           <u>", "|             <s>",
+              "|     <i>", "|       <u>", "|         <s>", "|           <p>", "|             <a>"], 8, 0),
+    ("a current node that is not in the list", element("body") + element("b") + adoption("b") + text(1), EMPTY + ["|   <body>", "|     <b>", "|     #1"], 4, 0),
+    ("an entry that is not open", element("body") + formatting("b") + POP + adoption("b") + RECONSTRUCT + text(1),
+     EMPTY + ["|   <body>", "|     <b>", "|     #1"], 6, 0),
+    ("a bold tag closed across a cell", element("body") + formatting("b") + element("table") + element("tbody") + element("tr") + element("td") + adoption("b") + text(1),
+     EMPTY + ["|   <body>", "|     <b>", "|       <table>", "|         <tbody>", "|           <tr>", "|             <td>", "|               #1"], 8, 0),
+    ("no entry: the end-tag path", element("body") + element("b") + element("i") + adoption("b") + text(1),
+     EMPTY + ["|   <body>", "|     <b>", "|       <i>", "|     #1"], 5, 0),
+    ("an adoption in a table", element("body") + element("table") + element("tr") + foster(1) + formatting("b") + element("p") + text(1) + adoption("b") + text(2),
+     EMPTY + ["|   <body>", "|     <b>", "|     <p>", "|       <b>", "|         #1", "|       #2", "|     <table>", "|       <tr>"], 9, 0),
+    ("the copy shares the attributes", formatting("b", [(600, 7)]) + element("p") + adoption("b"), EMPTY + ["|   <b>", "|     @600=#7", "|   <p>", "|     <b>", "|       @600=#7"], 3, 0),
+    ("an adoption of no formatting name", element("div") + adoption("div"), EMPTY + ["|   <div>"], 1, 2),
+    ("32 free nodes", B * 2014 + adoption("b"), None, 2015, 0),
+    ("31", B * 2015 + adoption("b"), None, 2015, 4),
+    ("an adoption takes 32", formatting("b") + NINE + adoption("b") + B * 1977, None, 2015, 0),
+    ("and no fewer", formatting("b") + NINE + adoption("b") + B * 1978, None, 2015, 4),
+    ("no misnested a", MISNESTED + formatting("b") + MISNESTED + text(1), EMPTY + ["|   <b>", "|     #1"], 4, 0),
+    ("nor does it want a node then", B * 2046 + MISNESTED, None, 2047, 0),
+    ("a misnested a", element("body") + formatting("a") + MISNESTED + formatting("a") + text(1), EMPTY + ["|   <body>", "|     <a>", "|     <a>", "|       #1"], 5, 0),
+    ("one across a block", element("body") + formatting("a") + element("p") + text(1) + MISNESTED + text(2),
+     EMPTY + ["|   <body>", "|     <a>", "|     <p>", "|       <a>", "|         #1", "|       #2"], 6, 0),
+    ("one before a marker", element("body") + formatting("a") + MARKER + MISNESTED + text(1), EMPTY + ["|   <body>", "|     <a>", "|       #1"], 5, 0),
+    ("one that is out of scope leaves stack and list", element("body") + formatting("a") + element("table") + MISNESTED + POP + text(1),
+     EMPTY + ["|   <body>", "|     <a>", "|       <table>", "|     #1"], 6, 0),
+    ("31 free nodes for one", formatting("a") + B * 2014 + MISNESTED, None, 2015, 4),
     ("modes are 1 to 21", mode(1) + mode(21) + mode(22), EMPTY, 2, 2),
     ("mode 0", mode(0), EMPTY, 0, 2),
     ("no mode to pop", mode(1) + UNMODE + UNMODE, EMPTY, 2, 3),

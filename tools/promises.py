@@ -2,7 +2,8 @@
 """Checks docs/PROMISES.md against the repository.
 
 A row that names a theorem names it as `theorem` (crates/NAME/path.antt); the theorem must be declared in that
-file, and the crate must be listed in crates.txt. Every public function of a listed crate must be on the page.
+file, and the crate must be listed in crates.txt. A row that names a line names it as `path:line` `text`, and the text
+must stand there. Every public function of a listed crate must be on the page.
 """
 import os
 import re
@@ -10,6 +11,7 @@ import sys
 
 PAGE = 'docs/PROMISES.md'
 CITED = re.compile(r'`([^`\s]+)` \((crates/([a-z_0-9]+)/[^)\s]+\.antt)\)')
+PLACED = re.compile(r'`(crates/[^`:\s]+):(\d+)` `([^`]+)`')
 PUBLIC = re.compile(r'^ *pub (?:extern "C" )?fn ([a-z_0-9]+)', re.M)
 
 
@@ -50,6 +52,11 @@ def main():
             wrong.append(f'{PAGE}: {path} does not exist')
         elif not declared(path, name):
             wrong.append(f'{PAGE}: {path} does not declare {name}')
+    for path, line, text in PLACED.findall(page):
+        with open(path, encoding='utf-8') as file:
+            lines = file.read().split('\n')
+        if text not in lines[int(line) - 1]:
+            wrong.append(f'{PAGE}: {path}:{line} has no {text}')
     for crate, _, function, path in public_functions(crates):
         if not re.search(rf'`(?:[A-Za-z_]+::)*{function}`', page):
             wrong.append(f'{PAGE}: {path}: {crate}::{function} is not on the page')

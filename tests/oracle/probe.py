@@ -2,23 +2,39 @@
 
     python3 tests/oracle/probe.py target/bin/probe [SEED [COUNT]]
 
-Both read the same saved state and request (FORMAT.md), and must write the same text. Calls that the probe does not take yet
-answer 2 in both. The last line is `N requests, M differ`."""
+Both read the same saved state and request (FORMAT.md), and must write the same text. Many states are asked one of module 8's
+questions besides. Calls that the probe does not take yet answer 2 in both. The last line is `N requests, M differ`."""
 import random
+import struct
 import subprocess
 import sys
 
 import gen
-from model import runs
-from model.serve import RESET, serve
+from model import runs, saved
+from model.names import NUMBER
+from model.serve import BODY, FOREIGN, RESET, TOKENIZER, serve
 from model.state import Refused
 
 # Calls that are not taken yet.
-LATER = (8, 9)
+LATER = ()
 
 
 def later(*_):
     raise Refused(2)
+
+
+def question(rng, item):
+    """The state of an item with one of module 8's questions."""
+    _, at = saved.read(item)
+    what = rng.choice((RESET, FOREIGN, FOREIGN, BODY, TOKENIZER))
+    words = []
+    if what == FOREIGN:
+        kind = rng.choice((0, 0, 0, 1, 2, 3, 4, 5, 6))
+        named = kind < 2 if rng.random() < 0.9 else kind >= 2
+        words = [kind, NUMBER[rng.choice(("svg", "mglyph", "malignmark", "p"))] if named else 0]
+    if what == TOKENIZER:
+        words = [rng.choice((0, 1, 1, 2))]
+    return item[:at] + bytes([what]) + struct.pack("<%dH" % len(words), *words)
 
 
 def inputs(seed, count):
@@ -26,18 +42,13 @@ def inputs(seed, count):
         for kind in ("streams", "states", "damaged"):
             rng = random.Random("%d %s %d" % (seed, kind, i))
             if kind == "streams":
-                yield from (item for item, _ in gen.stream_items(gen.stream(rng)))
-            elif kind == "states":
-                yield gen.state_item(rng)
+                items = [item for item, _ in gen.stream_items(gen.stream(rng))]
+                asked = rng.sample(items, min(4, len(items)))
             else:
-                yield gen.damaged_item(rng)
-
-
-def request(item):
-    """The number of the request in an item."""
-    from model import saved
-    _, at = saved.read(item)
-    return item[at]
+                items = [gen.state_item(rng) if kind == "states" else gen.damaged_item(rng)]
+                asked = items
+            yield from items
+            yield from (question(rng, item) for item in asked)
 
 
 def main():
@@ -49,8 +60,6 @@ def main():
         runs.CALLS[call] = (numbers, pairs, later)
     asked = differ = 0
     for item in inputs(seed, count):
-        if request(item) >= RESET:
-            continue
         asked += 1
         got = subprocess.run([probe], input=item, stdout=subprocess.PIPE, timeout=60).stdout.decode()
         expected = serve(item)

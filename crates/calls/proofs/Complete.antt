@@ -1,6 +1,6 @@
 -- Each public promise allows one result only: answer, record and every lent slice.
 -- Assumes nothing.
-use Prim.Native.Nat.{ℕ}
+use Prim.Native.Nat.{ℕ, _-_}
 use mathlib.Core.Path.{_≡_, refl, ap, sym, _∙_}
 use mathlib.Core.List.{List, _++_}
 use mathlib.Core.Bool.{Bool, true, false, cond}
@@ -13,6 +13,7 @@ use Rattle.state.specs.declared.Flags.{Flags}
 use Rattle.state.specs.declared.Context.{Context}
 use Rattle.state.specs.Fields.{coreOf}
 use Rattle.state.specs.Full.{Full, Result, result, refused}
+use Rattle.standard.specs.Begin.{Begun, begun}
 use Rattle.standard.specs.Run.{Ran, ran, runOf, single}
 use Rattle.calls.specs.Public.{Checked, whole}
 
@@ -79,9 +80,17 @@ run-one P y z st st′ n l m p q n′ l′ m′ p′ q′ w v =
     let e = checked-one w v in
     (ap (λ (r : Ran). r .answer) e, ap (λ (r : Ran). r .done) e, whole-one st st′ n l m p q n′ l′ m′ p′ q′ (ap (λ (r : Ran). r .after) e))
 
--- a single call
-pub call-one : (P : Type 0) (y z : Result) {k k′ : ℕ} (st st′ : State) (n l m p q n′ l′ m′ p′ q′ : List ℕ) → Checked P (result k (whole st n l m p q)) y z → Checked P (result k′ (whole st′ n′ l′ m′ p′ q′)) y z
-    → (k ≡ k′) × Same st st′ n l m p q n′ l′ m′ p′ q′
-call-one P y z st st′ n l m p q n′ l′ m′ p′ q′ w v =
+-- a single call, and the nodes that it took from the state of which z are used
+pub call-one : (P : Type 0) (y n₀ : Result) (z : ℕ) {k k′ t t′ : ℕ} (st st′ : State) (n l m p q n′ l′ m′ p′ q′ : List ℕ)
+    → Checked P (result k (whole st n l m p q)) y n₀ → Checked P (result k′ (whole st′ n′ l′ m′ p′ q′)) y n₀
+    → t ≡ st .counts .nodes - z → t′ ≡ st′ .counts .nodes - z → (k ≡ k′) × (t ≡ t′) × Same st st′ n l m p q n′ l′ m′ p′ q′
+call-one P y n₀ z st st′ n l m p q n′ l′ m′ p′ q′ w v et et′ =
     let e = checked-one w v in
-    (ap (λ (r : Result). r .answer) e, whole-one st st′ n l m p q n′ l′ m′ p′ q′ (ap (λ (r : Result). r .after) e))
+    let same = whole-one st st′ n l m p q n′ l′ m′ p′ q′ (ap (λ (r : Result). r .after) e) in
+    (ap (λ (r : Result). r .answer) e, et ∙ ap (λ (s : State). s .counts .nodes - z) (same .state) ∙ sym et′, same)
+
+-- a begin
+pub begin-one : (y : Begun) {k k′ : ℕ} {st st′ : State} {n n′ m m′ : List ℕ} → begun k st n m ≡ y → begun k′ st′ n′ m′ ≡ y → (k ≡ k′) × (st ≡ st′) × (n ≡ n′) × (m ≡ m′)
+begin-one y e f =
+    let g = e ∙ sym f in
+    (ap (λ (b : Begun). b .answer) g, ap (λ (b : Begun). b .state) g, ap (λ (b : Begun). b .nodes) g, ap (λ (b : Begun). b .modes) g)

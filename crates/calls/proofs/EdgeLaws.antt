@@ -1,6 +1,6 @@
 -- The check at the edge, and what a call that checks first gives.
 -- Assumes nothing.
-use Prim.Native.Nat.{ℕ, _+_}
+use Prim.Native.Nat.{ℕ, _+_, _-_}
 use mathlib.Core.Path.{_≡_, refl, ap, sym, _∙_}
 use mathlib.Core.List.{List, _++_}
 use mathlib.Core.Logic.{_↔_}
@@ -81,3 +81,9 @@ module _ (st : State) (n l m p q : List ℕ) {c : Core} (e : c ≡ coreOf st) wh
       → Checked (SoundFull (full (st .stack .handles) c (st .context) n l m p q)) (result k (full h′ c′ (st .context) n′ l′ m′ p′ q′)) (single s (full (st .stack .handles) c (st .context) n l m p q)) (refused 1 (full (st .stack .handles) c (st .context) n l m p q))
       → Checked (SoundFull (whole st n l m p q)) (result k (whole st′ n′ l′ m′ p′ q′)) (single s (whole st n l m p q)) (refused 1 (whole st n l m p q))
   call-edge s st′ h′ c′ n′ l′ m′ p′ q′ es w = rw (core-whole, after-whole st′ h′ c′ (st .context) n′ l′ m′ p′ q′ es) at w
+
+-- the nodes that a call took
+pub taken-edge : (st st′ : State) {c : Core} (c′ : Core) (h′ : List ℕ) (x : Context) {k : ℕ} → c ≡ coreOf st → st′ ≡ stateOf h′ c′ x → k ≡ c′ .counts .nodes - c .counts .nodes
+    → k ≡ st′ .counts .nodes - st .counts .nodes
+unfolding coreOf stateOf
+taken-edge st st′ c′ h′ x e es ek = ek ∙ rw (e, es)

@@ -1,5 +1,6 @@
 // Runs of records, and single calls given as a record. The state is checked first, once.
 ghost use mathlib.Core.Path.{_≡_};
+ghost use Prim.Native.Nat.{_-_};
 ghost use Rattle.theory.specs.Says.{Says};
 ghost use Rattle.sound.specs.State.{SoundFull};
 ghost use Rattle.state.specs.Full.{full, result, refused};
@@ -304,6 +305,19 @@ pub struct Called {
     pub state: State,
 }
 
+// The same for a single call, and how many nodes it took: an adoption reports them.
+pub struct Single {
+    pub answer: usize,
+    pub taken: usize,
+    pub state: State,
+}
+
+fn minus(a: usize, b: usize) -> usize
+    ensures { λ r. ⌜ r ≡ a - b ⌝ }
+{
+    if b < a { a - b } else { 0 }
+}
+
 // A single call, given as a record: the state is checked first. What follows the record is not looked at.
 pub fn call(
     state: State,
@@ -313,12 +327,14 @@ pub fn call(
     pieces: &mut [u8],
     pairs: &mut [u8],
     input: &[u8],
-) -> Called
+) -> Single
     ensures { λ r. ⌜ Checked (SoundFull (whole state (now (nodes .entry)) (now (list .entry)) (now (modes .entry)) (now (pieces .entry)) (now (pairs .entry)))) (result (r .answer) (whole (r .state) (now (nodes .exit)) (now (list .exit)) (now (modes .exit)) (now (pieces .exit)) (now (pairs .exit)))) (def.single (now (input .entry)) (whole state (now (nodes .entry)) (now (list .entry)) (now (modes .entry)) (now (pieces .entry)) (now (pairs .entry)))) (refused 1 (whole state (now (nodes .entry)) (now (list .entry)) (now (modes .entry)) (now (pieces .entry)) (now (pairs .entry)))) ⌝ }
+    ensures { λ r. ⌜ r .taken ≡ r .state .counts .nodes - state .counts .nodes ⌝ }
 {
     let mut s = state;
     let core = s.core();
     let context = s.context;
+    let before = core.counts.nodes;
     let d = call_on(
         &mut s.stack.handles,
         core,
@@ -330,8 +346,9 @@ pub fn call(
         pairs,
         input,
     );
-    Called {
+    Single {
         answer: d.answer,
+        taken: minus(d.core.counts.nodes, before),
         state: s.with_core(d.core),
     }
 }

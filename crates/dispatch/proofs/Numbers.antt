@@ -9,7 +9,8 @@ use Rattle.standard.specs.Insertion.{inserted-element, inserted-text, inserted-
 use Rattle.standard.specs.Small.{marked, cleared, popped, fostered, headed, moded, unmoded}
 use Rattle.standard.specs.Stack.{ended, closedP, closedCell, implied}
 use Rattle.standard.specs.Formatting.{created, reconstructed}
-use Rattle.standard.specs.Step.{asked, later, middleStep, lowStep, highStep, step}
+use Rattle.standard.specs.Adoption.{adoption, misnested}
+use Rattle.standard.specs.Step.{asked, unknown, middleStep, lowStep, highStep, step}
 
 module _ (s : List ℕ) (call a b c from count : ℕ) (f : Full) {x : Result} where
   pub low-1 : call ≡ 1 → x ≡ inserted-element s f a b c from count → x ≡ lowStep s (asked call a b c from count) f
@@ -45,6 +46,14 @@ module _ (s : List ℕ) (call a b c from count : ℕ) (f : Full) {x : Result} wh
   unfolding lowStep
   low-rest h1 h2 h3 h4 h5 h6 h7 y =
       simp (ne-eqb _ _ h1, ne-eqb _ _ h2, ne-eqb _ _ h3, ne-eqb _ _ h4, ne-eqb _ _ h5, ne-eqb _ _ h6, ne-eqb _ _ h7) y
+
+  pub middle-8 : call ≡ 8 → x ≡ adoption f a → x ≡ middleStep (asked call a b c from count) f
+  unfolding middleStep
+  middle-8 e y = rw e y
+
+  pub middle-9 : call ≡ 9 → x ≡ misnested f → x ≡ middleStep (asked call a b c from count) f
+  unfolding middleStep
+  middle-9 e y = rw e y
 
   pub middle-10 : call ≡ 10 → x ≡ ended f a → x ≡ middleStep (asked call a b c from count) f
   unfolding middleStep
@@ -91,10 +100,11 @@ module _ (s : List ℕ) (call a b c from count : ℕ) (f : Full) {x : Result} wh
   step-high h y = simp (le-ltb _ _ h) y
 
 module _ (s : List ℕ) (call a b c from count : ℕ) (f : Full) where
-  pub middle-rest : (call ≡ 10 → ⊥) → (call ≡ 11 → ⊥) → (call ≡ 12 → ⊥) → (call ≡ 13 → ⊥) → refused 2 f ≡ middleStep (asked call a b c from count) f
-  unfolding middleStep later
-  middle-rest h1 h2 h3 h4 = simp (ne-eqb _ _ h1, ne-eqb _ _ h2, ne-eqb _ _ h3, ne-eqb _ _ h4)
+  pub middle-rest : (call ≡ 8 → ⊥) → (call ≡ 9 → ⊥) → (call ≡ 10 → ⊥) → (call ≡ 11 → ⊥) → (call ≡ 12 → ⊥) → (call ≡ 13 → ⊥)
+      → refused 2 f ≡ middleStep (asked call a b c from count) f
+  unfolding middleStep unknown
+  middle-rest h1 h2 h3 h4 h5 h6 = simp (ne-eqb _ _ h1, ne-eqb _ _ h2, ne-eqb _ _ h3, ne-eqb _ _ h4, ne-eqb _ _ h5, ne-eqb _ _ h6)
 
   pub high-rest : (call ≡ 14 → ⊥) → (call ≡ 15 → ⊥) → (call ≡ 16 → ⊥) → (call ≡ 17 → ⊥) → (call ≡ 18 → ⊥) → refused 2 f ≡ highStep (asked call a b c from count) f
-  unfolding highStep later
+  unfolding highStep unknown
   high-rest h1 h2 h3 h5 h6 = simp (ne-eqb _ _ h1, ne-eqb _ _ h2, ne-eqb _ _ h3, ne-eqb _ _ h5, ne-eqb _ _ h6)

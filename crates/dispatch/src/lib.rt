@@ -7,6 +7,7 @@ ghost use Rattle.state.specs.declared.Context.{Context};
 ghost use Rattle.state.specs.Full.{full, result};
 ghost use Rattle.state.specs.Ready.{Ready};
 ghost use Rattle.standard.specs.Step.{asked, middleStep, lowStep, highStep, step};
+use adoption::agency;
 use builder::insertion;
 use builder::small;
 use formatting::create;
@@ -16,20 +17,22 @@ use stacks::implied;
 use state::Core;
 use state::Done;
 
-// Calls 10 to 13.
+// Calls 8 to 13.
 fn middle(
     h: &mut [u16],
     core: Core,
-    nodes: &[u8],
+    nodes: &mut [u8],
     list: &mut [u16],
     call: u16,
     a: u16,
     b: u16,
 ) -> Done
     requires { ⌜ Ready (now h) (now list) core ⌝ }
-    ensures { λ r. ⌜ ((c from count : ℕ) (m p q : List ℕ) (x : Context) → result (r .answer) (full (now (h .exit)) (r .core) x (now (nodes .entry)) (now (list .exit)) m p q) ≡ middleStep (asked call a b c from count) (full (now (h .entry)) core x (now (nodes .entry)) (now (list .entry)) m p q)) ⌝ }
+    ensures { λ r. ⌜ ((c from count : ℕ) (m p q : List ℕ) (x : Context) → result (r .answer) (full (now (h .exit)) (r .core) x (now (nodes .exit)) (now (list .exit)) m p q) ≡ middleStep (asked call a b c from count) (full (now (h .entry)) core x (now (nodes .entry)) (now (list .entry)) m p q)) ⌝ }
 {
     match call {
+        8 => agency::adoption_agency(h, core, nodes, list, a),
+        9 => agency::handle_misnested_a_tags(h, core, nodes, list),
         10 => close::process_end_tag_in_body(h, core, nodes, a),
         11 => close::close_p_element(h, core, nodes),
         12 => close::close_the_cell(h, core, nodes, list),

@@ -2,18 +2,16 @@
 -- order does. What is asked of the place is `Spot`.
 -- Assumes nothing.
 use Prim.Native.Nat.{ℕ, _≤_, _<_}
-use mathlib.Core.Path.{_≡_, sym, ap, _∙_}
+use mathlib.Core.Path.{_≡_, sym, _∙_}
 use mathlib.Core.Logic.{_≢_, _⊎_, inl, inr}
 use mathlib.Core.List.{List, [], _∷_, _++_}
 use native.Mathlib.Omega.{arith}
 use native.Mathlib.Decide.{ℕ-discrete}
 use lib.ListN.{length, take}
-use borrow.Author.Tests.{lt-ltb, ne-eqb}
 use Rattle.theory.specs.Fn.{Upd, put, put-upd}
-use Rattle.theory.specs.Kids.{hd, lst}
 use Rattle.theory.specs.Natural.{Natural}
 use Rattle.theory.specs.Stores.{find}
-use Rattle.lent.specs.Mem.{field, up, KIND, PARENT, PREV, NEXT, FIRST, LAST, TIE, PIECE, END, DOCUMENT, ELEMENT, TEXT, COMMENT, CONTENTS}
+use Rattle.lent.specs.Mem.{field, up, KIND, PARENT, FIRST, LAST, TIE, DOCUMENT, ELEMENT, TEXT, COMMENT, CONTENTS}
 use Rattle.arena.proofs.Lengths.{length-appended, length-inserted}
 use Rattle.arena.proofs.Children.{Forest, appended-parents, appended-children, inserted-parents, inserted-children}
 use Rattle.arena.proofs.Others.{NoLink, appended-field, inserted-field}
@@ -24,8 +22,9 @@ use Rattle.standard.specs.declared.Place.{Place}
 use Rattle.standard.specs.declared.Place.the-variants.{End, Before}
 use Rattle.standard.specs.Place.{attached}
 use Rattle.kept.specs.Room.{node-slots}
-use Rattle.kept.specs.Same.{Links, changed, names-refl}
-use Rattle.kept.specs.Pieces.{words-same}
+use Rattle.kept.specs.Same.{Links}
+use Rattle.kept.specs.Rewire.{ends-same, rewired-sound}
+pub use Rattle.kept.specs.Rewire.{late-free}
 
 -- what is put there becomes a child of
 abbrev pub parentAt : List ℕ → Place → ℕ
@@ -80,18 +79,6 @@ attached-child {m} {c} {ks} f (Before b) s x z h e =
       forest = inserted-children f (b .0) (s .sibling .0) (s .sibling .1) n (t .0) (t .1) (t .2) x z h e;
     }
 
--- fields from TIE on are no links
-pub late-free : (f : ℕ) → TIE ≤ f → f < 16 → NoLink f
-late-free f h k =
-    record {
-      below = lt-ltb f 16 k;
-      parent = ne-eqb PARENT f (λ e. omega arith);
-      prev = ne-eqb PREV f (λ e. omega arith);
-      next = ne-eqb NEXT f (λ e. omega arith);
-      first = ne-eqb FIRST f (λ e. omega arith);
-      last = ne-eqb LAST f (λ e. omega arith);
-    }
-
 -- going up leads from x to p, and is as it was elsewhere
 pub child-up : {m m′ : List ℕ} {c : ℕ} {ks : ℕ → List ℕ} {p x : ℕ} → Child m m′ c ks p x → field m x KIND ≢ CONTENTS → Upd (up m) (up m′) x p
 child-up {m} {m′} {x = x} w d =
@@ -112,11 +99,7 @@ module _ {m p q l f t : List ℕ} {c v u d k s foster head : ℕ} {x : Context} 
   module _ {m′ : List ℕ} {a n : ℕ} (w : Child m m′ c (o .tree .children .kids) a n) (at : field m a KIND ≢ TEXT) (ac : field m a KIND ≢ COMMENT)
       (nd : field m n KIND ≢ DOCUMENT) (nc : field m n KIND ≢ CONTENTS) (ne : field m n KIND ≡ ELEMENT → a ≢ 1) (bare : field m n PARENT ≡ 0) where
     ends : (y : ℕ) → 0 < y → y ≤ c → y ≢ a → (field m′ y FIRST ≡ field m y FIRST) × (field m′ y LAST ≡ field m y LAST)
-    ends y z h d =
-        let e : put (o .tree .children .kids) a (w .list) y ≡ o .tree .children .kids y = put-upd (o .tree .children .kids) a (w .list) .old y d in (
-          w .forest .are .first y z h ∙ ap (λ (r : List ℕ). hd r 0) e ∙ sym (o .tree .children .isKids .first y z h),
-          w .forest .are .last y z h ∙ ap (λ (r : List ℕ). lst 0 r) e ∙ sym (o .tree .children .isKids .last y z h),
-        )
+    ends y z h d = ends-same forest (w .forest) y z h (put-upd (o .tree .children .kids) a (w .list) .old y d)
 
     links : (y : ℕ) → 0 < y → y ≤ c → Links m m′ y
     links y z h =
@@ -140,29 +123,13 @@ module _ {m p q l f t : List ℕ} {c v u d k s foster head : ℕ} {x : Context} 
 
     pub attached-sound : Natural (up m′) c (take d l) → Sound m′ p q l f t c v u d k s foster head x
     attached-sound r =
-        changed o
+        rewired-sound o
         (record {
-          sizes = record { nodes = (o .sizes .nodes .0, rw (w .size) (o .sizes .nodes .1)); pieces = o .sizes .pieces; pairs = o .sizes .pairs };
-          more = omega arith;
-          longer = omega arith;
-          same =
-              record {
-                kind = λ y z h. w .fields y KIND kind-free;
-                rest = λ y g z h i j. w .fields y g (late-free g i (omega arith));
-                end = λ y z h e. w .fields y END (late-free END (omega arith) (omega arith));
-              };
+          size = w .size;
+          fields = w .fields;
+          kids = put (o .tree .children .kids) a (w .list);
+          forest = w .forest;
           links = links;
           root = w .parents .old 2 (λ e. omega (arith, o .tree .top .parent, rw (← e) at bare));
-          names = names-refl q u;
-          children = record { parent = w .forest .parents; kids = put (o .tree .children .kids) a (w .list); isKids = w .forest .are };
-          kinds = λ y g h. absurd (omega arith);
-          known = o .tree .names;
-          order = r;
-          texts =
-              words-same (o .texts)
-              (record {
-                kind = λ y z h. w .fields y KIND kind-free;
-                piece = λ y z h. w .fields y PIECE (late-free PIECE (omega arith) (omega arith));
-                end = λ y z h. w .fields y END (late-free END (omega arith) (omega arith));
-              });
         })
+        r

@@ -41,15 +41,15 @@ entries-picked {m} {l} {l′} {c} {k′ = k′} {g = g} e p = record { entry = �
         }
 
 -- where entry i stood before entry j left
-skip : ℕ → ℕ → ℕ
+pub skip : ℕ → ℕ → ℕ
 skip j i = cond (ltb i j) i (suc i)
 
 module _ (j i : ℕ) where
-  skip-low : i < j → skip j i ≡ i
+  pub skip-low : i < j → skip j i ≡ i
   unfolding skip
   skip-low h = rw (lt-ltb i j h)
 
-  skip-high : j ≤ i → skip j i ≡ suc i
+  pub skip-high : j ≤ i → skip j i ≡ suc i
   unfolding skip
   skip-high h = rw (le-ltb i j h)
 
@@ -70,7 +70,7 @@ skip-rises j i n h = by (decLt i j) (decLt n j)
     by (no a) (no b) = omega (arith, skip-high j i (omega arith), skip-high j n (omega arith))
 
 module _ (l : List ℕ) (j : ℕ) (h : j < length l) where
-  without-at : (i : ℕ) → at (take j l ++ drop (j + 1) l) i ≡ at l (skip j i)
+  pub without-at : (i : ℕ) → at (take j l ++ drop (j + 1) l) i ≡ at l (skip j i)
   without-at i = by (decLt i j)
     where
       len : length (take j l) ≡ j
@@ -84,7 +84,7 @@ module _ (l : List ℕ) (j : ℕ) (h : j < length l) where
           rw (skip-high j i (omega arith))
           (ap (λ (n : ℕ). at (take j l ++ drop (j + 1) l) n) (sym e) ∙ getD-append-add (take j l) (drop (j + 1) l) (i - j) 0 ∙ getD-drop (j + 1) l (i - j) 0 ∙ ap (λ (n : ℕ). at l n) g)
 
-  without-picks : Picks l (take j l ++ drop (j + 1) l) (length l) (length l - 1) (skip j)
+  pub without-picks : Picks l (take j l ++ drop (j + 1) l) (length l) (length l - 1) (skip j)
   without-picks =
       record {
         same = λ i b. without-at i;

@@ -8,11 +8,14 @@ use mathlib.Core.List.{List}
 use native.Mathlib.Omega.{arith}
 use lib.Dec.{eqb, ltb}
 use Rattle.names.specs.Tag as tag
-use Rattle.names.specs.Sets.{ButtonScope, TableScope}
+use Rattle.names.specs.Space as space
+use Rattle.names.specs.Sets.{isIn, Formatting, ButtonScope, TableScope}
 use Rattle.arena.specs.Make.{nodesOf}
 use Rattle.arena.specs.Room.{freeNodes, freePieces, freePairs}
 use Rattle.arena.specs.declared.make.Tag.{Tag}
 use Rattle.places.specs.Places.{Places}
+use Rattle.places.specs.declared.Found.{Found}
+use Rattle.places.specs.declared.Found.the-variants.{At, Nothing}
 use Rattle.state.specs.Full.{Full, Result, refused, done}
 use Rattle.standard.specs.declared.Place.{Place}
 use Rattle.standard.specs.Place.{textBefore}
@@ -20,7 +23,8 @@ use Rattle.standard.specs.Insertion.{usualPlace, badTag, badPairs, elementDone,
 use Rattle.standard.specs.Small.{room, marked, cleared, popped, fostered, headed, moded, unmoded}
 use Rattle.standard.specs.Stack.{named, isCell, inScope, isFound, badImplied, implied, closedP, closedCell, badEndTag, ended}
 use Rattle.standard.specs.Formatting.{badFormatting, createdRoom, createdFor, created, anewRoom, reconstructed}
-use Rattle.standard.specs.Step.{Asked, later, middleStep, lowStep, highStep, step}
+use Rattle.standard.specs.Adoption.{entryOf, fewNodes, adoption, misnestedAt, misnested}
+use Rattle.standard.specs.Step.{Asked, unknown, middleStep, lowStep, highStep, step}
 
 -- the answer is 0, or from 2 to k
 pub record Answer (k : ℕ) (n : ℕ) : Type 0 where
@@ -126,6 +130,19 @@ module _ (f : Full) where
   unfolding unmoded
   fair-unmoded = fair-or (ltb 0 (f .modes .size)) (fair-yes f _) (no 3 (omega arith) (omega arith))
 
+  fair-adoption : (name : ℕ) → Fair f (adoption f name)
+  unfolding adoption
+  fair-adoption name =
+      fair-or (not (isIn Formatting space.html name)) (no 2 (omega arith) (omega arith)) (fair-or (fewNodes f) (no 4 (omega arith) (omega arith)) (fair-yes f _))
+
+  fair-misnested : Fair f (misnested f)
+  unfolding misnested misnestedAt
+  fair-misnested = by (entryOf (f .nodes .mem) (f .list) tag.a)
+    where
+      by : (o : Found) → Fair f (misnestedAt o f)
+      by Nothing = fair-yes f f
+      by (At j) = fair-or (fewNodes f) (no 4 (omega arith) (omega arith)) (fair-yes f _)
+
   fair-ended : (name : ℕ) → Fair f (ended f name)
   unfolding ended
   fair-ended name = fair-or (badEndTag name) (no 2 (omega arith) (omega arith)) (fair-yes f _)
@@ -142,17 +159,19 @@ module _ (f : Full) where
   unfolding implied
   fair-implied kind except = fair-or (badImplied kind except) (no 2 (omega arith) (omega arith)) (fair-yes f _)
 
-  fair-later : Fair f (later f)
-  unfolding later
-  fair-later = no 2 (omega arith) (omega arith)
+  fair-unknown : Fair f (unknown f)
+  unfolding unknown
+  fair-unknown = no 2 (omega arith) (omega arith)
 
   fair-middle : (r : Asked) → Fair f (middleStep r f)
   unfolding middleStep
   fair-middle r =
-      fair-or (eqb (r .call) 10) (fair-ended (r .a))
+      fair-or (eqb (r .call) 8) (fair-adoption (r .a))
+      (fair-or (eqb (r .call) 9) fair-misnested
+      (fair-or (eqb (r .call) 10) (fair-ended (r .a))
       (fair-or (eqb (r .call) 11) fair-closed-p
       (fair-or (eqb (r .call) 12) fair-closed-cell
-      (fair-or (eqb (r .call) 13) (fair-implied (r .a) (r .b)) fair-later)))
+      (fair-or (eqb (r .call) 13) (fair-implied (r .a) (r .b)) fair-unknown)))))
 
   fair-low : (s : List ℕ) (r : Asked) → Fair f (lowStep s r f)
   unfolding lowStep
@@ -172,7 +191,7 @@ module _ (f : Full) where
       (fair-or (eqb (r .call) 15) (fair-fostered (r .a))
       (fair-or (eqb (r .call) 16) (fair-moded (r .a))
       (fair-or (eqb (r .call) 17) fair-unmoded
-      (fair-or (eqb (r .call) 18) (fair-headed (r .a)) fair-later))))
+      (fair-or (eqb (r .call) 18) (fair-headed (r .a)) fair-unknown))))
 
   pub step-fair : (s : List ℕ) (r : Asked) → Fair f (step s r f)
   unfolding step

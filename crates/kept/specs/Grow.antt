@@ -79,7 +79,7 @@ upd-upd h k = record { new = k .new; old = λ i d. k .old i d ∙ h .old i d }
 module _ {m p q l f t : List ℕ} {c v u d k s foster head : ℕ} {x : Context} (o : Sound m p q l f t c v u d k s foster head x)
     {m′ p′ : List ℕ} {v′ : ℕ} (w : Made m m′ (suc c)) (room : suc c < slots NODES m) (new : Kind m′ q (suc c) u (suc c)) (nc : field m′ (suc c) KIND ≢ CONTENTS)
     (words : Words m′ p′ (suc c) v′) (long : (v′ ≤ 8192) × (0 < v′ → (v′ + 1) * 4 ≤ length p′)) where
-  up-made : Upd (up m) (up m′) (suc c) 0
+  pub up-made : Upd (up m) (up m′) (suc c) 0
   up-made =
       record {
         new = up-parent m′ (suc c) nc ∙ w .parent;

@@ -20,11 +20,12 @@ use Rattle.state.specs.Full.{Full, Result, full}
 use Rattle.state.specs.Ready.{Ready}
 use Rattle.sound.specs.Sound.{Entries, MARKER}
 use Rattle.sound.specs.State.{SoundFull}
-use Rattle.standard.specs.Step.{Asked, asked, later, middleStep, lowStep, highStep, step}
+use Rattle.standard.specs.Step.{Asked, asked, unknown, middleStep, lowStep, highStep, step}
 use Rattle.standard.specs.Run.{ran, unlessRefused, onItem, runFor, runFrom, runOf, onSingle, single}
 use Rattle.kept.specs.Usual.{open-inside}
 use Rattle.kept.specs.Small.{marked-sound, cleared-sound, popped-sound, fostered-sound, headed-sound, moded-sound, unmoded-sound}
 use Rattle.kept.specs.Stack.{implied-sound, closed-p-sound, closed-cell-sound, ended-sound}
+use Rattle.kept.specs.Agency.{adoption-sound, misnested-sound}
 use Rattle.kept.specs.Insert.{inserted-comment-sound, inserted-text-sound}
 use Rattle.kept.specs.Element.{inserted-element-sound}
 use Rattle.kept.specs.Formatting.{created-sound}
@@ -36,17 +37,19 @@ both true x y p q = p
 both false x y p q = q
 
 module _ (f : Full) (ok : SoundFull f) where
-  later-sound : SoundFull (later f .after)
-  unfolding later
-  later-sound = ok
+  unknown-sound : SoundFull (unknown f .after)
+  unfolding unknown
+  unknown-sound = ok
 
   middle-sound : (r : Asked) → SoundFull (middleStep r f .after)
   unfolding middleStep
   middle-sound r =
-      both (eqb (r .call) 10) _ _ (ended-sound f ok (r .a))
+      both (eqb (r .call) 8) _ _ (adoption-sound f ok (r .a))
+      (both (eqb (r .call) 9) _ _ (misnested-sound f ok)
+      (both (eqb (r .call) 10) _ _ (ended-sound f ok (r .a))
       (both (eqb (r .call) 11) _ _ (closed-p-sound f ok)
       (both (eqb (r .call) 12) _ _ (closed-cell-sound f ok)
-      (both (eqb (r .call) 13) _ _ (implied-sound f ok (r .a) (r .b)) later-sound)))
+      (both (eqb (r .call) 13) _ _ (implied-sound f ok (r .a) (r .b)) unknown-sound)))))
 
   low-sound : (s : List ℕ) (r : Asked) → SoundFull (lowStep s r f .after)
   unfolding lowStep
@@ -66,7 +69,7 @@ module _ (f : Full) (ok : SoundFull f) where
       (both (eqb (r .call) 15) _ _ (fostered-sound f ok (r .a))
       (both (eqb (r .call) 16) _ _ (moded-sound f ok (r .a))
       (both (eqb (r .call) 17) _ _ (unmoded-sound f ok)
-      (both (eqb (r .call) 18) _ _ (headed-sound f ok (r .a)) later-sound))))
+      (both (eqb (r .call) 18) _ _ (headed-sound f ok (r .a)) unknown-sound))))
 
   pub step-sound : (s : List ℕ) (r : Asked) → SoundFull (step s r f .after)
   unfolding step

@@ -58,7 +58,7 @@ steps-more f (suc j) (suc k) n h (inl e) = inl e
 steps-more f (suc j) (suc k) n h (inr s) = inr (steps-more f j k (f n) (omega arith) s)
 
 -- the test for an HTML template
-template-is : (m : List ℕ) (n : ℕ) → Template m n → isHtml m n tag.template ≡ true
+pub template-is : (m : List ℕ) (n : ℕ) → Template m n → isHtml m n tag.template ≡ true
 unfolding isHtml
 template-is m n t =
     rw (eq-eqb (field m n KIND) ELEMENT (t .kind), eq-eqb (field m n SPACE) space.html (t .space), eq-eqb (field m n NAME) tag.template (t .name))

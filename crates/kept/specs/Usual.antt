@@ -96,7 +96,7 @@ module _ {m p q l f t : List ℕ} {c v u d k s foster head : ℕ} {x : Context} 
           }
 
   -- a node that has a child has a first child
-  has-first : (n : ℕ) → 0 < n → n ≤ c → (y : ℕ) → In y (o .tree .children .kids n) → field m n FIRST ≢ 0
+  pub has-first : (n : ℕ) → 0 < n → n ≤ c → (y : ℕ) → In y (o .tree .children .kids n) → field m n FIRST ≢ 0
   has-first n z h y i e = by (o .tree .children .kids n) refl i
     where
       by : (ys : List ℕ) → o .tree .children .kids n ≡ ys → In y ys → ⊥
@@ -137,48 +137,65 @@ module _ {m p q l f t : List ℕ} {c v u d k s foster head : ℕ} {x : Context} 
                 omega (arith, a, o .tree .top .name);
           }
 
-module _ (f : Full) (s : SoundFull f) where
-  entry : (i : ℕ) → i < f .stack .size → Inside (f .nodes .mem) (f .nodes .used) (at (f .stack) i)
-  unfolding at
-  entry i h = open-inside (s .sound) i h
-
+-- The appropriate place is the end of an open element, or before an open table that has a parent. All of these are among the first j
+-- entries of the stack if the target and the open tables and templates are.
+module _ (f : Full) (j : ℕ) (stops : (k : ℕ) → k < length (f .stack .held) → isFosterStop (f .nodes .mem) (at (f .stack) k) ≡ true → k < j) (some : 0 < j)
+    (P : Place → Type 0) (ends : (k : ℕ) → k < j → P (endOf (f .nodes .mem) (at (f .stack) k)))
+    (tables : (k : ℕ) → k < j → Html (f .nodes .mem) (at (f .stack) k) tag.table → field (f .nodes .mem) (at (f .stack) k) PARENT ≢ 0
+    → P (beforeTable (f .nodes .mem) (at (f .stack) k))) where
   -- entry i is the last table
-  after-table : (i : ℕ) → i < f .stack .size → Html (f .nodes .mem) (at (f .stack) i) tag.table
-      → Usual (f .nodes .mem) (f .nodes .used) (tablePlace (f .nodes .mem) (f .stack) i)
+  after-table : (i : ℕ) → i < j → Html (f .nodes .mem) (at (f .stack) i) tag.table → P (tablePlace (f .nodes .mem) (f .stack) i)
   unfolding tablePlace
   after-table i h w = by (eqb (field (f .nodes .mem) (at (f .stack) i) PARENT) 0) refl
     where
       by : (b : Bool) → eqb (field (f .nodes .mem) (at (f .stack) i) PARENT) 0 ≡ b
-          → Usual (f .nodes .mem) (f .nodes .used) (pick b (endOf (f .nodes .mem) (at (f .stack) (i - 1))) (beforeTable (f .nodes .mem) (at (f .stack) i)))
-      by true e = end-usual (s .sound) (at (f .stack) (i - 1)) (entry (i - 1) (omega arith))
-      by false e = table-usual (s .sound) (at (f .stack) i) (entry i h) w (eqb-false _ 0 e)
+          → P (pick b (endOf (f .nodes .mem) (at (f .stack) (i - 1))) (beforeTable (f .nodes .mem) (at (f .stack) i)))
+      by true e = ends (i - 1) (omega arith)
+      by false e = tables i h w (eqb-false _ 0 e)
 
   -- entry i is the last template or table
-  after-stop : (i : ℕ) → i < f .stack .size → isFosterStop (f .nodes .mem) (at (f .stack) i) ≡ true
-      → Usual (f .nodes .mem) (f .nodes .used) (templateOrTable (f .nodes .mem) (f .stack) i)
+  after-stop : (i : ℕ) → i < j → isFosterStop (f .nodes .mem) (at (f .stack) i) ≡ true → P (templateOrTable (f .nodes .mem) (f .stack) i)
   unfolding templateOrTable isFosterStop
   after-stop i h g = by (isHtml (f .nodes .mem) (at (f .stack) i) tag.template) refl
     where
       by : (b : Bool) → isHtml (f .nodes .mem) (at (f .stack) i) tag.template ≡ b
-          → Usual (f .nodes .mem) (f .nodes .used) (pick b (endOf (f .nodes .mem) (at (f .stack) i)) (tablePlace (f .nodes .mem) (f .stack) i))
-      by true e = end-usual (s .sound) (at (f .stack) i) (entry i h)
+          → P (pick b (endOf (f .nodes .mem) (at (f .stack) i)) (tablePlace (f .nodes .mem) (f .stack) i))
+      by true e = ends i h
       by false e = after-table i h (is-html (f .nodes .mem) (at (f .stack) i) tag.table (or-true _ _ g e))
 
-  foster-usual : Usual (f .nodes .mem) (f .nodes .used) (fosterPlace (f .nodes .mem) (f .stack))
+  at-foster : P (fosterPlace (f .nodes .mem) (f .stack))
   unfolding fosterPlace fosterAt lastWith at
-  foster-usual = by (down (isFosterStop (f .nodes .mem)) never (f .stack .held) (length (f .stack .held))) refl
+  at-foster = by (down (isFosterStop (f .nodes .mem)) never (f .stack .held) (length (f .stack .held))) refl
     where
       by : (r : Found) → down (isFosterStop (f .nodes .mem)) never (f .stack .held) (length (f .stack .held)) ≡ r
-          → Usual (f .nodes .mem) (f .nodes .used) (fosterAt r (f .nodes .mem) (f .stack))
-      by Nothing e = end-usual (s .sound) (at (f .stack) 0) (entry 0 (s .sound .tree .stack .some))
+          → P (fosterAt r (f .nodes .mem) (f .stack))
+      by Nothing e = ends 0 some
       by (At i) e =
           let t = down-at (isFosterStop (f .nodes .mem)) never (f .stack .held) (length (f .stack .held)) i e in
-          after-stop i (omega (arith, t .below, s .stack .all)) (t .has)
+          after-stop i (stops i (t .below) (t .has)) (t .has)
+
+  pub at-appropriate : (i : ℕ) → i < j → P (appropriatePlace (f .nodes .mem) (f .stack) (f .flags .foster) (at (f .stack) i))
+  unfolding appropriatePlace
+  at-appropriate i h = by (eqb (f .flags .foster) 1 && isFosterTarget (f .nodes .mem) (at (f .stack) i))
+    where
+      by : (b : Bool) → P (pick b (fosterPlace (f .nodes .mem) (f .stack)) (endOf (f .nodes .mem) (at (f .stack) i)))
+      by true = at-foster
+      by false = ends i h
+
+module _ (f : Full) (s : SoundFull f) where
+  pub entry : (i : ℕ) → i < f .stack .size → Inside (f .nodes .mem) (f .nodes .used) (at (f .stack) i)
+  unfolding at
+  entry i h = open-inside (s .sound) i h
+
+  -- any open element may be the target
+  pub target-usual : (i : ℕ) → i < f .stack .size
+      → Usual (f .nodes .mem) (f .nodes .used) (appropriatePlace (f .nodes .mem) (f .stack) (f .flags .foster) (at (f .stack) i))
+  target-usual i h =
+      at-appropriate f (f .stack .size) (λ k b g. omega (arith, s .stack .all)) (s .sound .tree .stack .some) (Usual (f .nodes .mem) (f .nodes .used))
+      (λ k b. end-usual (s .sound) (at (f .stack) k) (entry k b))
+      (λ k b w z. table-usual (s .sound) (at (f .stack) k) (entry k b) w z)
+      i h
 
   pub place-usual : Usual (f .nodes .mem) (f .nodes .used) (usualPlace f)
-  unfolding usualPlace appropriatePlace current
-  place-usual = by (eqb (f .flags .foster) 1 && isFosterTarget (f .nodes .mem) (at (f .stack) (f .stack .size - 1)))
-    where
-      by : (b : Bool) → Usual (f .nodes .mem) (f .nodes .used) (pick b (fosterPlace (f .nodes .mem) (f .stack)) (endOf (f .nodes .mem) (at (f .stack) (f .stack .size - 1))))
-      by true = foster-usual
-      by false = end-usual (s .sound) (at (f .stack) (f .stack .size - 1)) (entry (f .stack .size - 1) (omega (arith, s .sound .tree .stack .some)))
+  unfolding usualPlace current
+  place-usual = target-usual (f .stack .size - 1) (omega (arith, s .sound .tree .stack .some))

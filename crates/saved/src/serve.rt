@@ -4,6 +4,11 @@ use crate::load;
 use crate::save;
 use calls::begin;
 use calls::run;
+use queries::Asked;
+use queries::body_elem;
+use queries::foreign;
+use queries::reset;
+use queries::tokenizer;
 use state::State;
 
 // What a request gave.
@@ -78,7 +83,7 @@ fn begin_with(st: State, nodes: &mut [u8], modes: &mut [u16], rest: &[u8]) -> Gi
     }
 }
 
-// Requests 0, 2 and 3; the others are not taken yet.
+// Requests 0, 2 and 3; there are none past 7.
 fn ask(
     what: u8,
     st: State,
@@ -94,8 +99,8 @@ fn ask(
         let after = c.state;
         return Given {
             answer: c.answer,
-            result: 0,
-            has: false,
+            result: c.taken,
+            has: reports(byte(rest, 0), c.answer),
             state: after,
         };
     }
@@ -117,6 +122,17 @@ fn ask(
     }
 }
 
+// Calls 8 and 9, once they are done, report the nodes that they took.
+fn reports(call: u8, answer: usize) -> bool {
+    if answer != 0 {
+        return false;
+    }
+    if call == 8 {
+        return true;
+    }
+    call == 9
+}
+
 fn checked(what: u8, sound: bool) -> usize {
     if !sound {
         return 1;
@@ -125,6 +141,78 @@ fn checked(what: u8, sound: bool) -> usize {
         return 0;
     }
     2
+}
+
+// Requests 4 and 5, with two words after them.
+fn low_question(
+    what: u8,
+    st: State,
+    nodes: &[u8],
+    list: &[u16],
+    modes: &[u16],
+    pieces: &[u8],
+    pairs: &[u8],
+    a: u16,
+    b: u16,
+) -> Asked {
+    if what == 4 {
+        return reset::reset_insertion_mode(st, nodes, list, modes, pieces, pairs);
+    }
+    foreign::is_foreign(st, nodes, list, modes, pieces, pairs, a, b)
+}
+
+// Requests 6 and 7.
+fn high_question(
+    what: u8,
+    st: State,
+    nodes: &[u8],
+    list: &[u16],
+    modes: &[u16],
+    pieces: &[u8],
+    pairs: &[u8],
+    a: u16,
+) -> Asked {
+    if what == 6 {
+        return body_elem::body_elem(st, nodes, list, modes, pieces, pairs);
+    }
+    tokenizer::tokenizer_state_for_context_elem(st, nodes, list, modes, pieces, pairs, a)
+}
+
+// Requests 4 to 7 change nothing.
+fn question(
+    what: u8,
+    st: State,
+    nodes: &[u8],
+    list: &[u16],
+    modes: &[u16],
+    pieces: &[u8],
+    pairs: &[u8],
+    rest: &[u8],
+) -> Asked {
+    let a = load::word(rest, 0);
+    let b = load::word(rest, 1);
+    if what < 6 {
+        return low_question(what, st, nodes, list, modes, pieces, pairs, a, b);
+    }
+    high_question(what, st, nodes, list, modes, pieces, pairs, a)
+}
+
+fn is_question(what: u8) -> bool {
+    if what < 4 {
+        return false;
+    }
+    what <= 7
+}
+
+// Only with answer 0 has it a result.
+fn answered(q: Asked, st: State) -> Given {
+    let answer = q.answer;
+    Given {
+        answer: answer,
+        result: q.value,
+        has: answer == 0,
+        state: st,
+    }
 }
 
 pub fn put_text(out: &mut [u8], at: usize, text: &[u8]) -> usize {
@@ -186,6 +274,10 @@ fn serve_on(
 ) -> Given {
     if what == 1 {
         return begin_with(st, nodes, modes, rest);
+    }
+    if is_question(what) {
+        let q = question(what, st, nodes, list, modes, pieces, pairs, rest);
+        return answered(q, st);
     }
     ask(what, st, nodes, list, modes, pieces, pairs, rest)
 }

@@ -21,7 +21,7 @@ use Rattle.places.proofs.Laws.{at-of, whole-of, down-none, down-hit, down-stop,
 use Rattle.state.specs.declared.Core.{Core}
 use Rattle.state.specs.declared.Context.{Context}
 use Rattle.state.specs.Fields.{setDepth}
-use Rattle.state.specs.Full.{Result, full, result, done, withStack}
+use Rattle.state.specs.Full.{Full, Result, full, result, done, withStack}
 use Rattle.standard.specs.Html.{isHtml, current}
 use Rattle.standard.specs.Small.{cleared}
 use Rattle.standard.specs.Stack.{isOf, named, isCell, inScope, isFound, shorter, whileTop, poppedWhile, poppedUntil, isImplied, impliedEnds, impliedSet, badImplied, implied, withoutP, closedP, withoutCell, closedCell, badEndTag, endedAt, endTag, ended}
@@ -276,18 +276,21 @@ module _ (s n l m p q : List ℕ) (x : Context) (c : Core) where
       ∙ ap cleared (stack-put s n l m p q x c s′ size _ (ep ∙ sym (cell-cut n (placesOf s (c .depth)) i (whole-of s (c .depth) d) (sym eo ∙ h))) ec)
       ∙ rw (found-yes (sym eo ∙ h))
 
+  module _ (name : ℕ) {o : Found} (eo : o ≡ inScope Special (named n name) n (placesOf s (c .depth))) where
+    pub end-tag-none : o ≡ Nothing → full s c x n l m p q ≡ withStack (full s c x n l m p q) (endTag n (placesOf s (c .depth)) name)
+    unfolding endTag endedAt withStack
+    end-tag-none e = rw (sym eo ∙ e)
+
+    pub end-tag-at : (s′ : List ℕ) (size : ℕ) {i : ℕ} {c′ : Core} → c .depth ≤ length s → o ≡ At i → placesOf s′ size ≡ cut (placesOf s (c .depth)) i → c′ ≡ setDepth c size
+        → full s′ c′ x n l m p q ≡ withStack (full s c x n l m p q) (endTag n (placesOf s (c .depth)) name)
+    end-tag-at s′ size {i} d e ep ec =
+        stack-put s n l m p q x c s′ size _ (ep ∙ sym (end-cut n (placesOf s (c .depth)) i (whole-of s (c .depth) d) name (sym eo ∙ e))) ec
+
   module _ (name : ℕ) {b : Bool} (eb : b ≡ badEndTag name) where
     pub ended-bad : b ≡ true → result 2 (full s c x n l m p q) ≡ ended (full s c x n l m p q) name
     unfolding ended
     ended-bad h = rw (sym eb ∙ h)
 
-    pub ended-none : {o : Found} → b ≡ false → o ≡ inScope Special (named n name) n (placesOf s (c .depth)) → o ≡ Nothing → result 0 (full s c x n l m p q) ≡ ended (full s c x n l m p q) name
-    unfolding ended endTag endedAt withStack
-    ended-none h eo e = rw (sym eb ∙ h, sym eo ∙ e)
-
-    pub ended-done : (s′ : List ℕ) (size : ℕ) {o : Found} {i : ℕ} {c′ : Core} → b ≡ false → c .depth ≤ length s → o ≡ inScope Special (named n name) n (placesOf s (c .depth)) → o ≡ At i
-        → placesOf s′ size ≡ cut (placesOf s (c .depth)) i → c′ ≡ setDepth c size → result 0 (full s′ c′ x n l m p q) ≡ ended (full s c x n l m p q) name
+    pub ended-done : {y : Full} → b ≡ false → y ≡ withStack (full s c x n l m p q) (endTag n (placesOf s (c .depth)) name) → result 0 y ≡ ended (full s c x n l m p q) name
     unfolding ended
-    ended-done s′ size {i = i} h d eo e ep ec =
-        ap done (stack-put s n l m p q x c s′ size _ (ep ∙ sym (end-cut n (placesOf s (c .depth)) i (whole-of s (c .depth) d) name (sym eo ∙ e))) ec)
-        ∙ rw (sym eb ∙ h)
+    ended-done h e = ap done e ∙ rw (sym eb ∙ h)

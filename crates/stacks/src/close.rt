@@ -5,8 +5,9 @@ ghost use mathlib.Core.List.{List};
 ghost use Prim.Native.Nat.{ℕ, _≤_};
 ghost use lib.ListN.{length};
 ghost use Rattle.state.specs.declared.Context.{Context};
-ghost use Rattle.state.specs.Full.{full, result};
-ghost use Rattle.standard.specs.Stack.{badEndTag, closedP, closedCell, ended};
+ghost use Rattle.places.specs.Places.{placesOf};
+ghost use Rattle.state.specs.Full.{full, result, withStack};
+ghost use Rattle.standard.specs.Stack.{badEndTag, closedP, closedCell, endTag, ended};
 use crate::walk;
 use crate::walk::Category;
 use crate::walk::Wanted;
@@ -62,6 +63,18 @@ fn is_bad(name: u16) -> bool
     name == tag::HTML
 }
 
+// "Any other end tag", for a name that call 10 takes.
+pub fn end_tag(h: &mut [u16], core: Core, nodes: &[u8], name: u16) -> Core
+    requires { ⌜ core .depth ≤ length (now h) ⌝ }
+    ensures { λ r. ⌜ ((l m p q : List ℕ) (x : Context) → full (now (h .exit)) r x (now (nodes .entry)) l m p q ≡ withStack (full (now (h .entry)) core x (now (nodes .entry)) l m p q) (endTag (now (nodes .entry)) (placesOf (now (h .entry)) (core .depth)) name)) ⌝ }
+{
+    let depth = core.depth;
+    match walk::in_scope(nodes, h, depth, Category::Special, Wanted::Html(name)) {
+        Found::At(i) => core.with_depth(places::cut_at(h, depth, i)),
+        Found::Nothing => core,
+    }
+}
+
 // 10
 pub fn process_end_tag_in_body(h: &mut [u16], core: Core, nodes: &[u8], name: u16) -> Done
     requires { ⌜ core .depth ≤ length (now h) ⌝ }
@@ -73,15 +86,8 @@ pub fn process_end_tag_in_body(h: &mut [u16], core: Core, nodes: &[u8], name: u1
             core: core,
         };
     }
-    let depth = core.depth;
-    match walk::in_scope(nodes, h, depth, Category::Special, Wanted::Html(name)) {
-        Found::At(i) => Done {
-            answer: 0,
-            core: core.with_depth(places::cut_at(h, depth, i)),
-        },
-        Found::Nothing => Done {
-            answer: 0,
-            core: core,
-        },
+    Done {
+        answer: 0,
+        core: end_tag(h, core, nodes, name),
     }
 }

@@ -9,3 +9,4 @@ pub mod Begin
 pub mod Stack
 pub mod Formatting
 pub mod Adoption
+pub mod Refusals

@@ -9,6 +9,7 @@ use Rattle.standard.specs.Insertion.{inserted-element, inserted-text, in
 use Rattle.standard.specs.Small.{marked, cleared, popped, fostered, headed, moded, unmoded}
 use Rattle.standard.specs.Stack.{ended, closedP, closedCell, implied}
 use Rattle.standard.specs.Formatting.{created, reconstructed}
+use Rattle.standard.specs.Adoption.{adoption, misnested}
 
 -- the call's number, its arguments, and where in the record its pairs begin and how many they are
 pub record Asked : Type 0 where
@@ -22,18 +23,20 @@ pub record Asked : Type 0 where
 abbrev pub asked : ℕ → ℕ → ℕ → ℕ → ℕ → ℕ → Asked
 asked call a b c from count = record { call = call; a = a; b = b; c = c; from = from; count = count }
 
--- calls 8 and 9 are not taken yet
-unfoldable pub later : Full → Result
-later f = refused 2 f
+-- an unknown call
+unfoldable pub unknown : Full → Result
+unknown f = refused 2 f
 
--- calls 10 to 13
+-- calls 8 to 13
 unfoldable pub middleStep : Asked → Full → Result
 middleStep r f =
-    cond (eqb (r .call) 10) (ended f (r .a))
+    cond (eqb (r .call) 8) (adoption f (r .a))
+    (cond (eqb (r .call) 9) (misnested f)
+    (cond (eqb (r .call) 10) (ended f (r .a))
     (cond (eqb (r .call) 11) (closedP f)
     (cond (eqb (r .call) 12) (closedCell f)
     (cond (eqb (r .call) 13) (implied f (r .a) (r .b))
-    (later f))))
+    (unknown f))))))
 
 -- calls 1 to 13; s is the input that holds the record
 unfoldable pub lowStep : List ℕ → Asked → Full → Result
@@ -55,7 +58,7 @@ highStep r f =
     (cond (eqb (r .call) 16) (moded f (r .a))
     (cond (eqb (r .call) 17) (unmoded f)
     (cond (eqb (r .call) 18) (headed f (r .a))
-    (later f)))))
+    (unknown f)))))
 
 unfoldable pub step : List ℕ → Asked → Full → Result
 step s r f = cond (ltb (r .call) 14) (lowStep s r f) (highStep r f)

@@ -1,8 +1,6 @@
 -- `stacks::close::process_end_tag_in_body` meets its contract.
 -- Assumes nothing.
 use Rattle.stacks.proofs.StackLaws as laws
-use Rattle.stacks.specs.Walk.{namesOf, wantedIn}
-use native.Mathlib.Omega.{arith}
 use borrow.Author.Needs.{needs}
 use Rattle.stacks.proofs.close.process_end_tag_in_body.Statement.{statement}
 use Rattle.stacks.proofs.close.process_end_tag_in_body.Tie as tie
@@ -13,47 +11,15 @@ is-bad-requires c κs = search needs
 returns : tie.Need-returns
 returns c = λ l m p q x. laws.ended-bad _ _ l m p q x _ _ ((c .before .is-bad) .ensures) ((c .if1) .taken)
 
-in-scope-requires : tie.Need-in-scope-requires
-in-scope-requires c κs = search needs
-
-enum-known-i : tie.Need-enum-known-i
-enum-known-i c = search needs
-
-cut-at-requires : tie.Need-cut-at-requires
-cut-at-requires c κs = let lt = laws.scope-lt _ _ _ _ _ (omega arith) ((c .before .before .before .before .in-scope) .ensures) ((c .before .before .i) .given .1) in (omega arith, omega arith)
-
-with-depth-requires : tie.Need-with-depth-requires
-with-depth-requires c κs = search needs
-
-enum-told : tie.Need-enum-told
-enum-told c = search needs
+end-tag-requires : tie.Need-end-tag-requires
+end-tag-requires c κs = search needs
 
 same-length : tie.Need-same-length
 same-length c = search needs
 
 returns-2 : tie.Need-returns-2
-unfolding namesOf wantedIn
-returns-2 c = λ l m p q x. laws.ended-done _ _ l m p q x _ _ ((c .before .before .before .before .before .before .before .before .before .before .before .is-bad) .ensures) _ _ ((c .before .before .before .before .before .before .before .before .before .before .if1) .left) (omega arith) ((c .before .before .before .before .before .before .before .before .in-scope) .ensures) ((c .before .before .before .before .before .before .i) .given .1) ((c .before .before .before .cut-at) .ensures .1) ((c .with-depth) .ensures)
-
-same-length-2 : tie.Need-same-length-2
-same-length-2 c = search needs
-
-returns-3 : tie.Need-returns-3
-unfolding namesOf wantedIn
-returns-3 c = λ l m p q x. laws.ended-none _ _ l m p q x _ _ ((c .before .before .before .before .before .is-bad) .ensures) ((c .before .before .before .before .if1) .left) ((c .before .before .in-scope) .ensures) ((c .enum-told) .given .1)
+returns-2 c = λ l m p q x. laws.ended-done _ _ l m p q x _ _ ((c .before .before .before .before .before .is-bad) .ensures) ((c .before .before .before .before .if1) .left) ((c .before .before .end-tag) .ensures l m p q x)
 
 pub process-end-tag-in-body-spec : {M : Type 1} → statement M
 process-end-tag-in-body-spec =
-    tie.close
-    (tie.spec
-    is-bad-requires
-    returns
-    in-scope-requires
-    enum-known-i
-    cut-at-requires
-    with-depth-requires
-    enum-told
-    same-length
-    returns-2
-    same-length-2
-    returns-3)
+    tie.close (tie.spec is-bad-requires returns end-tag-requires same-length returns-2)

@@ -1,0 +1,8 @@
+pub mod Position
+pub mod Bound
+pub mod Holds
+pub mod FirmLaws
+pub mod Simulation
+pub mod Corners
+pub mod WalkLaws
+pub mod FinishLaws

@@ -1,0 +1,3 @@
+pub mod Bookmark
+pub mod Firm
+pub mod Corners

@@ -1,0 +1,4 @@
+pub mod SearchLaws
+pub mod FirmLaws
+pub mod TurnLaws
+pub mod AgencyLaws
