@@ -5,6 +5,7 @@ rule of the model round: the answer must then be the Rust's to the last word, an
 Other implementations, executables that read a batch file, must agree with the model everywhere.
 
 python3 compare.py --seed 1 --streams 20000 --states 20000 --damaged 20000 --runs 5000 --programs 200
+    --records N        streams until that many records have been compared, in place of --streams
     --oracle PATH      the oracle's binary
     --other PATH       another implementation (may be given again)
     --program PATH     another program that runs standard input and prints the dump (may be given again)
@@ -73,8 +74,13 @@ def same(ours, theirs, item):
     return refused and [x for x in a if x[:6] != "result"] == [x for x in b if x[:6] != "result"]
 
 
+def rest_of(item):
+    """The request of an item, with its arguments."""
+    return item[saved.size_of(item):]
+
+
 def request_of(item):
-    return item[saved.read(item)[1]]
+    return rest_of(item)[0]
 
 
 # ---- which listed difference it is
@@ -158,7 +164,7 @@ def describe(item):
 
 class Report:
     def __init__(self, options):
-        self.options, self.failed, self.compared = options, 0, Counter()
+        self.options, self.failed, self.compared, self.asked = options, 0, Counter(), 0
         self.kinds, self.where, self.smallest, self.answers = Counter(), Counter(), {}, Counter()
 
     def met(self, kinds, item, what):
@@ -208,11 +214,18 @@ def compare_items(report, what, pairs, stream_of=None):
             differs = lambda it: oracle_differs(options.oracle, it)
             small_answers(report, "%s, not on the list" % what, item, options.oracle, differs, stream_of and stream_of(i))
     for other in options.other:
-        for i, theirs in enumerate(ask(other, items)):
-            item, ours = pairs[i]
-            if not same(ours, theirs, item):
-                differs = lambda it: not same(serve(it), ask(other, [it])[0], it)
-                small_answers(report, "%s, %s" % (what, other[0]), item, other, differs, stream_of and stream_of(i))
+        compare_other(report, what, pairs, other, stream_of)
+
+
+def compare_other(report, what, pairs, other, stream_of):
+    """An implementation that must give the model's answer everywhere."""
+    report.asked += len(pairs)
+
+    def differs(item):
+        return not same(serve(item), ask(other, [item])[0], item)
+    for (i, (item, ours)), theirs in zip(enumerate(pairs), ask(other, [item for item, _ in pairs])):
+        if not same(ours, theirs, item):
+            small_answers(report, "%s, %s" % (what, other[0]), item, other, differs, stream_of and stream_of(i))
 
 
 def small_answers(report, title, item, command, differs, source):
@@ -247,7 +260,14 @@ def rng_of(options, kind, i):
 
 
 def compare_streams(report):
-    for chunk in chunks(report.options.streams, 200):
+    options, shown = report.options, 0
+    for chunk in chunks(options.streams or options.records, 200):
+        done = report.compared["records of streams"]
+        if options.records and done >= options.records:
+            return
+        if options.records and done // 250000 > shown:
+            shown = done // 250000
+            print("%d records, %d on no list" % (done, report.failed), flush=True)
         pairs, sources = [], []
         for i in chunk:
             stream = gen.stream(rng_of(report.options, "streams", i))
@@ -317,12 +337,12 @@ def compare_programs(report):
     options = report.options
     for i in range(options.programs):
         data = program_input(rng_of(options, "programs", i))
-        wanted = [(options.oracle + ["--program"], RUST)] if options.oracle else []
-        wanted += [(other, None) for other in options.program]
-        for command, rules in wanted:
+        wanted = [(options.oracle + ["--program"], lambda d: runs.program(d, RUST))] if options.oracle else []
+        wanted += [(other, runs.program) for other in options.program]
+        for command, model in wanted:
             report.compared["programs"] += 1
             out = subprocess.run(command, input=data, stdout=subprocess.PIPE).stdout.decode("ascii", "replace")
-            ours = runs.program(data, rules) if rules else runs.program(data)
+            ours = model(data)
             if out != ours:
                 report.failed += 1
                 if options.first:
@@ -346,6 +366,7 @@ def main():
     parser.add_argument("--seed", type=int, default=1)
     for name in ("streams", "states", "damaged", "runs", "programs"):
         parser.add_argument("--" + name, type=int, default=0)
+    parser.add_argument("--records", type=int, default=0)
     parser.add_argument("--oracle", default=os.path.join(HERE, "oracle", "target", "release", "oracle"))
     parser.add_argument("--other", action="append", default=[])
     parser.add_argument("--program", action="append", default=[])
@@ -365,9 +386,13 @@ def main():
     for compare in (compare_states, compare_every, compare_runs, compare_streams, compare_damaged, compare_names, compare_programs):
         compare(report)
     print("compared, seed %d, %.0f s:" % (options.seed, time.time() - start))
+    if options.other:
+        print("  three ways: the model, the Rust, %s" % ", ".join(os.path.basename(x[0]) for x in options.other))
     for what, count in report.compared.items():
         given = sorted((a.split()[1], n) for (w, a), n in report.answers.items() if w == what)
         print("  %d %s; answers %s" % (count, what, ", ".join("%s: %d" % x for x in given)))
+    if options.other:
+        print("  the proved builder was asked %d of them" % report.asked)
     print("listed differences from the Rust:")
     for kinds, count in sorted(report.kinds.items(), key=lambda x: (len(x[0]), str(x[0]))):
         where = ", ".join("%d %s" % (n, what) for (k, what), n in report.where.items() if k == kinds)

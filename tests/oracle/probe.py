@@ -1,26 +1,19 @@
-"""The proved probe against the model, on streams from a begin, random sound states and damaged states.
+"""The program `probe` against the model, on streams from a begin, random sound states and damaged states.
 
     python3 tests/oracle/probe.py target/bin/probe [SEED [COUNT]]
 
-Both read the same saved state and request (FORMAT.md), and must write the same text. Many states are asked one of module 8's
-questions besides. Calls that the probe does not take yet answer 2 in both. The last line is `N requests, M differ`."""
+Each request is a process of its own, as a host would start it; check.sh asks the same functions far more in one process. Both read the
+same saved state and request (FORMAT.md), and must write the same text. Many states are asked one of module 8's questions besides. The
+last line is `N requests, M differ`."""
 import random
 import struct
 import subprocess
 import sys
 
 import gen
-from model import runs, saved
+from model import saved
 from model.names import NUMBER
 from model.serve import BODY, FOREIGN, RESET, TOKENIZER, serve
-from model.state import Refused
-
-# Calls that are not taken yet.
-LATER = ()
-
-
-def later(*_):
-    raise Refused(2)
 
 
 def question(rng, item):
@@ -55,9 +48,6 @@ def main():
     probe = sys.argv[1]
     seed = int(sys.argv[2]) if len(sys.argv) > 2 else 1
     count = int(sys.argv[3]) if len(sys.argv) > 3 else 300
-    for call in LATER:
-        numbers, pairs, _ = runs.CALLS[call]
-        runs.CALLS[call] = (numbers, pairs, later)
     asked = differ = 0
     for item in inputs(seed, count):
         asked += 1

@@ -3,6 +3,5 @@ pub mod Bound
 pub mod Holds
 pub mod FirmLaws
 pub mod Simulation
-pub mod Corners
 pub mod WalkLaws
 pub mod FinishLaws

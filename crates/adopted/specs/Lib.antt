@@ -1,3 +1,2 @@
 pub mod Bookmark
 pub mod Firm
-pub mod Corners

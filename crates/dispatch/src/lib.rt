@@ -1,11 +1,14 @@
 // A call by its number, on a sound state. Each arm lends what its call touches, and no more.
 ghost use mathlib.Core.Path.{_≡_};
 ghost use mathlib.Core.List.{List};
-ghost use Prim.Native.Nat.{ℕ, _≤_};
+ghost use Prim.Native.Nat.{ℕ, _≤_, _<_};
 ghost use lib.ListN.{length};
 ghost use Rattle.state.specs.declared.Context.{Context};
 ghost use Rattle.state.specs.Full.{full, result};
 ghost use Rattle.state.specs.Ready.{Ready};
+ghost use Rattle.standard.specs.Adoption.{adoption, misnested};
+ghost use Rattle.standard.specs.Formatting.{created};
+ghost use Rattle.standard.specs.Insertion.{inserted-element};
 ghost use Rattle.standard.specs.Step.{asked, middleStep, lowStep, highStep, step};
 use adoption::agency;
 use builder::insertion;
@@ -15,7 +18,128 @@ use formatting::reconstruct;
 use stacks::close;
 use stacks::implied;
 use state::Core;
+use state::Counts;
 use state::Done;
+use state::Flags;
+
+// The record, field by field. A function that is not compiled into its user is lent the record in memory; a copy keeps the run's own
+// record out of it.
+fn apart(core: Core) -> Core
+    ensures { λ r. ⌜ r ≡ core ⌝ }
+{
+    let counts = Counts {
+        nodes: core.counts.nodes,
+        pieces: core.counts.pieces,
+        pairs: core.counts.pairs,
+        list: core.counts.list,
+        modes: core.counts.modes,
+    };
+    let flags = Flags {
+        foster: core.flags.foster,
+        head: core.flags.head,
+    };
+    Core {
+        depth: core.depth,
+        counts: counts,
+        flags: flags,
+    }
+}
+
+fn done_apart(d: Done) -> Done
+    ensures { λ r. ⌜ r ≡ d ⌝ }
+{
+    let counts = Counts {
+        nodes: d.core.counts.nodes,
+        pieces: d.core.counts.pieces,
+        pairs: d.core.counts.pairs,
+        list: d.core.counts.list,
+        modes: d.core.counts.modes,
+    };
+    let flags = Flags {
+        foster: d.core.flags.foster,
+        head: d.core.flags.head,
+    };
+    let core = Core {
+        depth: d.core.depth,
+        counts: counts,
+        flags: flags,
+    };
+    Done {
+        answer: d.answer,
+        core: core,
+    }
+}
+
+fn element(
+    h: &mut [u16],
+    core: Core,
+    nodes: &mut [u8],
+    pairs: &mut [u8],
+    input: &[u8],
+    ns: u16,
+    name: u16,
+    flags: u16,
+    from: usize,
+    count: u16,
+) -> Done
+    requires { ⌜ (0 < core .depth) × (core .depth ≤ 512) × (length (now h) ≡ 512) ⌝ }
+    requires { ⌜ core .counts .pairs ≤ 4096 ⌝ }
+    ensures { λ r. ⌜ ((l m w : List ℕ) (x : Context) → result (r .answer) (full (now (h .exit)) (r .core) x (now (nodes .exit)) l m w (now (pairs .exit))) ≡ inserted-element (now (input .entry)) (full (now (h .entry)) core x (now (nodes .entry)) l m w (now (pairs .entry))) ns name flags from count) ⌝ }
+{
+    let own = apart(core);
+    let d = insertion::element(h, own, nodes, pairs, input, ns, name, flags, from, count);
+    done_apart(d)
+}
+
+fn create(
+    h: &mut [u16],
+    core: Core,
+    nodes: &mut [u8],
+    pairs: &mut [u8],
+    list: &mut [u16],
+    input: &[u8],
+    name: u16,
+    from: usize,
+    count: u16,
+) -> Done
+    requires { ⌜ (0 < core .depth) × (core .depth ≤ 512) × (length (now h) ≡ 512) ⌝ }
+    requires { ⌜ (core .counts .list ≤ length (now list)) × (core .counts .pairs ≤ 4096) ⌝ }
+    ensures { λ r. ⌜ ((m w : List ℕ) (x : Context) → result (r .answer) (full (now (h .exit)) (r .core) x (now (nodes .exit)) (now (list .exit)) m w (now (pairs .exit))) ≡ created (now (input .entry)) (full (now (h .entry)) core x (now (nodes .entry)) (now (list .entry)) m w (now (pairs .entry))) name from count) ⌝ }
+{
+    let own = apart(core);
+    let d = create::create_formatting_element_for(
+        h,
+        own,
+        nodes,
+        pairs,
+        list,
+        input,
+        name,
+        from,
+        count,
+    );
+    done_apart(d)
+}
+
+// 8
+fn adopt(h: &mut [u16], core: Core, nodes: &mut [u8], list: &mut [u16], name: u16) -> Done
+    requires { ⌜ Ready (now h) (now list) core ⌝ }
+    ensures { λ r. ⌜ ((m p q : List ℕ) (x : Context) → result (r .answer) (full (now (h .exit)) (r .core) x (now (nodes .exit)) (now (list .exit)) m p q) ≡ adoption (full (now (h .entry)) core x (now (nodes .entry)) (now (list .entry)) m p q) name) ⌝ }
+{
+    let own = apart(core);
+    let d = agency::adoption_agency(h, own, nodes, list, name);
+    done_apart(d)
+}
+
+// 9
+fn adopt_a(h: &mut [u16], core: Core, nodes: &mut [u8], list: &mut [u16]) -> Done
+    requires { ⌜ Ready (now h) (now list) core ⌝ }
+    ensures { λ r. ⌜ ((m p q : List ℕ) (x : Context) → result (r .answer) (full (now (h .exit)) (r .core) x (now (nodes .exit)) (now (list .exit)) m p q) ≡ misnested (full (now (h .entry)) core x (now (nodes .entry)) (now (list .entry)) m p q)) ⌝ }
+{
+    let own = apart(core);
+    let d = agency::handle_misnested_a_tags(h, own, nodes, list);
+    done_apart(d)
+}
 
 // Calls 8 to 13.
 fn middle(
@@ -31,8 +155,8 @@ fn middle(
     ensures { λ r. ⌜ ((c from count : ℕ) (m p q : List ℕ) (x : Context) → result (r .answer) (full (now (h .exit)) (r .core) x (now (nodes .exit)) (now (list .exit)) m p q) ≡ middleStep (asked call a b c from count) (full (now (h .entry)) core x (now (nodes .entry)) (now (list .entry)) m p q)) ⌝ }
 {
     match call {
-        8 => agency::adoption_agency(h, core, nodes, list, a),
-        9 => agency::handle_misnested_a_tags(h, core, nodes, list),
+        8 => adopt(h, core, nodes, list, a),
+        9 => adopt_a(h, core, nodes, list),
         10 => close::process_end_tag_in_body(h, core, nodes, a),
         11 => close::close_p_element(h, core, nodes),
         12 => close::close_the_cell(h, core, nodes, list),
@@ -64,20 +188,10 @@ fn low(
     ensures { λ r. ⌜ ((m : List ℕ) (x : Context) → result (r .answer) (full (now (h .exit)) (r .core) x (now (nodes .exit)) (now (list .exit)) m (now (pieces .exit)) (now (pairs .exit))) ≡ lowStep (now (input .entry)) (asked call a b c from count) (full (now (h .entry)) core x (now (nodes .entry)) (now (list .entry)) m (now (pieces .entry)) (now (pairs .entry)))) ⌝ }
 {
     match call {
-        1 => insertion::element(h, core, nodes, pairs, input, a, b, c, from, count),
+        1 => element(h, core, nodes, pairs, input, a, b, c, from, count),
         2 => insertion::text(h, core, nodes, pieces, a),
         3 => insertion::comment(h, core, nodes, a, b),
-        4 => create::create_formatting_element_for(
-            h,
-            core,
-            nodes,
-            pairs,
-            list,
-            input,
-            a,
-            from,
-            count,
-        ),
+        4 => create(h, core, nodes, pairs, list, input, a, from, count),
         5 => small::marker(core, list),
         6 => small::clear(core, list),
         7 => reconstruct::reconstruct_active_formatting_elements(h, core, nodes, list),

@@ -1,8 +1,8 @@
 -- The rows of the tree construction dispatcher, by case.
 -- Assumes nothing.
 use Prim.Native.Nat.{ℕ, _-_, _<_, _≤_}
-use mathlib.Core.Path.{_≡_, refl, ap, sym, _∙_}
-use mathlib.Core.Bool.{Bool, true, false, not, _||_}
+use mathlib.Core.Path.{_≡_, ap, sym, _∙_}
+use mathlib.Core.Bool.{Bool, true, false, not, or-false}
 use mathlib.Core.List.{List}
 use native.Mathlib.Omega.{arith}
 use lib.ListN.{getD}
@@ -41,10 +41,6 @@ pub characters-null : (kind : ℕ) → (kind ≡ CHARACTERS → ⊥) → eqb kin
 unfolding isCharacters
 characters-null kind h = rw (ne-eqb kind CHARACTERS h)
 
-or-no : (a : Bool) → (a || false) ≡ a
-or-no true = refl
-or-no false = refl
-
 -- ---- MathML text integration points
 
 module _ (e : Expanded) (kind name : ℕ) {b : Bool} (eb : b ≡ isIn MathTextPoints (e .space) (e .name)) where
@@ -63,7 +59,7 @@ module _ (e : Expanded) (kind name : ℕ) {b : Bool} (eb : b ≡ isIn MathTextPo
 
     pub text-start : kind ≡ START-TAG → (name ≡ tag.mglyph → ⊥) → not (eqb name tag.malignmark) ≡ forTextPoint e kind name
     unfolding forTextPoint isPlainStart isCharacters
-    text-start k n = rw (sym eb ∙ not-false b h, k, ne-eqb name tag.mglyph n) (sym (or-no (not (eqb name tag.malignmark))))
+    text-start k n = rw (sym eb ∙ not-false b h, k, ne-eqb name tag.mglyph n) (sym (or-false (not (eqb name tag.malignmark))))
 
 -- ---- MathML annotation-xml
 

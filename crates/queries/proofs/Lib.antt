@@ -4,5 +4,4 @@ pub mod ForeignLaws
 pub mod TokenizerLaws
 pub mod QueryLaws
 pub mod Complete
-pub mod Corners
 pub mod Ranges

@@ -1,21 +1,17 @@
 -- The questions at the edge: what a sound state gives them, and their answers by case.
 -- Assumes nothing.
 use Prim.Native.Nat.{ℕ, _<_, _≤_}
-use mathlib.Core.Path.{_≡_, refl, ap, sym, _∙_}
+use mathlib.Core.Path.{_≡_, ap, sym, _∙_}
 use mathlib.Core.Bool.{Bool, true, false}
 use mathlib.Core.List.{List}
-use native.Mathlib.Omega.{arith}
 use lib.ListN.{length, getD}
-use lib.Dec.{eqb, leb}
 use borrow.Author.Tests.{lt-ltb, le-ltb, le-leb, lt-leb}
 use Rattle.names.specs.Tag as tag
 use Rattle.places.specs.Places.{placesOf, at}
 use Rattle.places.proofs.Laws.{at-of}
 use Rattle.builder.proofs.SmallLaws.{size-of}
-use Rattle.state.specs.declared.Context.{Context}
 use Rattle.state.specs.declared.State.{State}
 use Rattle.state.specs.Fields.{coreOf}
-use Rattle.state.specs.Full.{Full}
 use Rattle.standard.specs.Html.{isHtml}
 use Rattle.sound.specs.State.{SoundFull}
 use Rattle.kept.specs.Step.{sound-ready, sound-modes}

@@ -1,7 +1,7 @@
 -- The insertion mode by the names of the steps, and one turn of the walk up the stack.
 -- Assumes nothing.
 use Prim.Native.Nat.{ℕ, zero, suc, _-_, _<_, _≤_}
-use mathlib.Core.Path.{_≡_, refl, ap, sym, _∙_}
+use mathlib.Core.Path.{_≡_, refl, sym, _∙_}
 use mathlib.Core.Bool.{Bool, true, false}
 use mathlib.Core.Logic.{_⊎_, inl, inr, ⊎-elim}
 use mathlib.Core.List.{List}
@@ -12,9 +12,8 @@ use lib.Dec.{eqb}
 use borrow.Author.Tests.{eq-eqb, ne-eqb}
 use Rattle.names.specs.Space as space
 use Rattle.names.specs.Tag as tag
-use Rattle.places.specs.Places.{placesOf, at}
+use Rattle.places.specs.Places.{placesOf}
 use Rattle.places.proofs.Laws.{at-of}
-use Rattle.builder.proofs.SmallLaws.{size-of}
 use Rattle.state.specs.declared.Context.{Context}
 use Rattle.queries.specs.declared.Asked.{Asked}
 use Rattle.queries.specs.declared.element.Expanded.{Expanded}

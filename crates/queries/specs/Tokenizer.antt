@@ -1,7 +1,7 @@
 -- 13.4, parsing HTML fragments, the step that sets the state of the tokenization stage by the context element.
 -- Assumes nothing.
 use Prim.Native.Nat.{ℕ}
-use mathlib.Core.Bool.{Bool, cond, _&&_, _||_}
+use mathlib.Core.Bool.{cond, _||_}
 use lib.Dec.{eqb, ltb}
 use Rattle.names.specs.Space as space
 use Rattle.names.specs.Tag as tag

@@ -1,6 +1,5 @@
 // The body element: the second open element, if it is one.
 ghost use mathlib.Core.Path.{_≡_};
-ghost use Prim.Native.Nat.{_≤_};
 ghost use Rattle.places.specs.Places.{placesOf};
 ghost use Rattle.sound.specs.State.{SoundFull};
 ghost use Rattle.calls.specs.Public.{whole, Checked};

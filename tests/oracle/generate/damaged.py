@@ -1,6 +1,9 @@
-"""Damaged states: words changed at random, or one rule broken while the links still agree."""
+"""Damaged states: bytes or words changed at random, or one rule broken while the links still agree."""
+import struct
+
 from model.names import HTML, TABLE, TEMPLATE
-from model.saved import COMMENT, CONTENTS, ELEMENT, KIND, MARKER, NAME, STACK, TEXT
+from model.saved import COMMENT, CONTENTS, ELEMENT, KIND, LARGEST, MARKER, NAME, STACK, TEXT
+from model.saved import size_of as saved_size
 from model.serve import BODY, CHECK, RESET, RUN, SINGLE, TOKENIZER
 from model.state import State, append
 
@@ -9,9 +12,11 @@ from .states import deep_state, sound_state
 
 
 def damaged_item(rng):
-    """A sound state with one to three changed words, or with one rule broken while the links still agree. Counts may change too:
-    the words after them then follow the new counts."""
+    """A sound state with one to three changed bytes or words, or with one rule broken while the links still agree. Counts may change
+    too: the words after them then follow the new counts."""
     c = Choice(rng)
+    if c.chance(0.3):
+        return changed_bytes(c, sound_state(rng, c.below(9)).pack()) + bytes([CHECK])
     if c.chance(0.002):
         s = deep_state(rng)
         s.depth = c.pick([s.depth, s.depth + 1, STACK + 1, 65535])
@@ -26,6 +31,17 @@ def damaged_item(rng):
                 damage(c, s)
     ask = bytes([CHECK]) if c.chance(0.9) else request_for_damaged(c)
     return s.pack() + ask
+
+
+def changed_bytes(c, data):
+    """One to three bytes, any of them, to any value, but no room over the largest; then as many bytes as the counts say, new ones 0."""
+    data = bytearray(data)
+    for _ in range(1 + c.below(3)):
+        at = c.below(len(data))
+        data[at] = c.pick([data[at] ^ 1 << c.below(8), data[at] + 1 & 255, data[at] - 1 & 255, 0, c.below(256)])
+    struct.pack_into("<5H", data, 0, *map(min, struct.unpack_from("<5H", data), LARGEST))
+    size = saved_size(data)
+    return bytes(data[:size]).ljust(size, b"\0")
 
 
 # Each takes a state apart in one way that changed words alone seldom reach. Where there is nothing to break it stays sound.
@@ -214,7 +230,8 @@ def damage(c, s):
         s.context = c.pick([(3, P, 0), (0, 0, 0), (0, 400, 0), (1, ANNOTATION_XML, 1), (1, ANNOTATION_XML, 2), (2, ANNOTATION_XML, 1), (0, 600, 0)])
     elif what == "room":
         i = c.below(5)
-        s.room = tuple(c.pick([0, max(s.used[i] - 1, 0), s.used[i]]) if j == i else r for j, r in enumerate(s.room))
+        room = min(c.pick([0, max(s.used[i] - 1, 0), s.used[i]]), LARGEST[i])
+        s.room = tuple(room if j == i else r for j, r in enumerate(s.room))
     elif what == "count":
         i = c.below(6)
         step = c.pick([-1, 1, 2, 600])

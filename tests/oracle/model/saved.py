@@ -55,6 +55,13 @@ def read(data):
     return s, 34 + 2 * at
 
 
+def size_of(data):
+    """How many bytes the state at the start of data has, by its counts."""
+    head = struct.unpack_from("<11H", data)
+    nodes, entries, modes, pieces, pairs = (min(room, used) for room, used in zip(head[:5], head[5:10]))
+    return 34 + 2 * (min(head[10], STACK) + 14 * nodes + entries + modes + 2 * pieces + 2 * pairs)
+
+
 def empty(room=LARGEST):
     """What a caller lends before its first begin: nothing is used, which isn't sound."""
     s = Saved()

@@ -2,6 +2,7 @@
 //
 //   oracle FILE            answers the requests of a batch file (../FORMAT.md)
 //   oracle --program       runs standard input from a fresh document and prints the dump
+//   --unguarded            the refusals that the driver makes for document 01 at 10, 11, 12 and 14 are left out
 //   --empty-start-zero     elements without attributes have START 0, and not the pairs used
 #![allow(dead_code, unused_imports, unused_variables)]
 
@@ -38,7 +39,11 @@ use saved::{Saved, Words};
 use std::fmt::Write as _;
 use std::io::{Read as _, Write as _};
 use std::panic::{catch_unwind, AssertUnwindSafe};
+use std::sync::atomic::{AtomicBool, Ordering};
 use tree_builder::TreeBuilder;
+
+// Whether the driver's refusals at 10, 11, 12 and 14 are left out.
+pub static UNGUARDED: AtomicBool = AtomicBool::new(false);
 
 type Builder = TreeBuilder<usize, Arena>;
 
@@ -148,6 +153,7 @@ fn main() -> std::io::Result<()> {
     std::panic::set_hook(Box::new(|_| {}));
     let args: Vec<String> = std::env::args().skip(1).collect();
     let zero = args.iter().any(|a| a == "--empty-start-zero");
+    UNGUARDED.store(args.iter().any(|a| a == "--unguarded"), Ordering::Relaxed);
     if args.iter().any(|a| a == "--program") {
         return program(zero);
     }

@@ -6,6 +6,7 @@
 //      formatting at 4 and 8; too many attributes, or one twice
 //   3  at 11, 12, 14 and 17, with the Rust's own scope tests; not at reset and at the tokenizer state, where the Rust panics
 //   4  fewer than 32 free nodes at 8, and at 9 where the Rust finds an `a`
+// With UNGUARDED those with 3, and that of `html` at 10, are not made: what the Rust does then is seen.
 // Capacities (4 to 8 elsewhere) are looked at after it: the Rust works without limit on a copy, and what does not fit then
 // is refused, and the state is the old one.
 use super::*;
@@ -13,6 +14,8 @@ use crate::arena::{Arena, Tree, CONTEXT};
 use crate::names::{names, space, SPACES};
 use crate::records::Call;
 use crate::saved::*;
+use crate::UNGUARDED;
+use std::sync::atomic::Ordering;
 
 pub(crate) enum Answer {
     Done(Saved, Option<usize>),
@@ -191,6 +194,7 @@ impl TreeBuilder<usize, Arena> {
         let arg = |i: usize| call.args[i];
         let attrs = || call.pairs.iter().map(attribute).collect::<Vec<_>>();
         let free = s.room[0] - s.used[0];
+        let guarded = !UNGUARDED.load(Ordering::Relaxed);
         let mut result = None;
         match call.number {
             1 => {
@@ -244,19 +248,19 @@ impl TreeBuilder<usize, Arena> {
                 result = Some(tb.sink.0.borrow().nodes.len() - s.nodes.len());
             },
             10 => {
-                if !names.known(arg(0)) || arg(0) == names.number_of("html") {
+                if !names.known(arg(0)) || (guarded && arg(0) == names.number_of("html")) {
                     return Refused(2);
                 }
                 tb.process_end_tag_in_body(tag(EndTag, names.local(arg(0)), vec![]));
             },
             11 => {
-                if !tb.in_scope_named(button_scope, local_name!("p")) {
+                if guarded && !tb.in_scope_named(button_scope, local_name!("p")) {
                     return Refused(3);
                 }
                 tb.close_p_element();
             },
             12 => {
-                if !tb.in_scope(table_scope, |n| tb.elem_in(&n, td_th)) {
+                if guarded && !tb.in_scope(table_scope, |n| tb.elem_in(&n, td_th)) {
                     return Refused(3);
                 }
                 tb.close_the_cell();
@@ -277,7 +281,7 @@ impl TreeBuilder<usize, Arena> {
                 }
             },
             14 => {
-                if s.depth == 1 {
+                if guarded && s.depth == 1 {
                     return Refused(3);
                 }
                 tb.pop();

@@ -1,13 +1,16 @@
-"""Does the comparison notice? Each line changes one rule of a copy of the model; the comparison must then fail.
+"""Does the comparison notice? Each line is one deliberate mistake in a copy of the model; the comparison must then fail.
 
-python3 mutants.py [NUMBER ...]: prints how each change (or these) is noticed, and fails if one isn't."""
+python3 mistakes.py [NUMBER ...]: a line for each mistake (or these), with what found it and after how many seconds; fails if one is not found.
+python3 mistakes.py --some: every fourth, for the test command."""
+import concurrent.futures
 import os
 import shutil
 import subprocess
 import sys
+import tempfile
+import time
 
 HERE = os.path.dirname(os.path.abspath(__file__))
-COPY = os.path.join(HERE, "target", "mutant-%d" % os.getpid())
 PARTS = ("model", "generate", "gen.py", "every.py", "compare.py", "shrink.py", "names.txt")
 
 BUILDER, SOUND, RUNS, STATE, NAMES = ("model/%s.py" % n for n in ("builder", "sound", "runs", "state", "names"))
@@ -119,7 +122,7 @@ EDITS = [
     (SOUND, "    return nodes[n][TIE] if nodes[n][KIND] == CONTENTS else nodes[n][PARENT]", "    return nodes[n][PARENT]"),
     (SOUND, "len(set(entries)) == len(entries) and", ""),
     (SOUND, "nodes[e][SPACE] == HTML and", ""),
-    (SOUND, "or i in met:\n                return False\n            met.add(i)\n            i, last", "or i in met and i == last:\n                return False\n            met.add(i)\n            i, last"),
+    (SOUND, "        i, last = node[PIECE], 0\n        while i:\n            if i > len(s.pieces) or i in met:\n                return False\n", "        i, last, own = node[PIECE], 0, set()\n        while i:\n            if i > len(s.pieces) or i in own:\n                return False\n            own.add(i)\n"),
     (SOUND, "or node[END] != last", ""),
     (SOUND, "return len(met) == len(s.pieces)", "return True"),
     (SOUND, "if last == 0 or", "if"),
@@ -135,44 +138,51 @@ ARGS = ["--first", "--states", "6000", "--damaged", "12000", "--runs", "600", "-
         "--oracle", os.path.join(HERE, "oracle", "target", "release", "oracle")]
 
 
-def noticed(path, old, new):
-    shutil.rmtree(COPY, ignore_errors=True)
-    os.makedirs(COPY)
+def copied(to):
     for part in PARTS:
         source = os.path.join(HERE, part)
         if os.path.isdir(source):
-            shutil.copytree(source, os.path.join(COPY, part), ignore=shutil.ignore_patterns("__pycache__"))
+            shutil.copytree(source, os.path.join(to, part), ignore=shutil.ignore_patterns("__pycache__"))
         else:
-            shutil.copy(source, COPY)
-    with open(os.path.join(COPY, path)) as f:
-        text = f.read()
-    if old not in text:
-        sys.exit("not there: %s: %s" % (path, old))
-    with open(os.path.join(COPY, path), "w") as f:
-        f.write(text.replace(old, new))
-    try:
-        run = subprocess.run([sys.executable, "compare.py"] + ARGS, cwd=COPY, stdout=subprocess.PIPE, stderr=subprocess.PIPE, timeout=300)
-    except subprocess.TimeoutExpired:
-        return "no end"
+            shutil.copy(source, to)
+
+
+def found(number):
+    """What notices the mistake, None if nothing does; and the seconds until then."""
+    path, old, new = EDITS[number]
+    start = time.time()
+    with tempfile.TemporaryDirectory() as folder:
+        copied(folder)
+        with open(os.path.join(folder, path)) as f:
+            text = f.read()
+        if old not in text:
+            sys.exit("not there: %s: %s" % (path, old))
+        with open(os.path.join(folder, path), "w") as f:
+            f.write(text.replace(old, new))
+        try:
+            run = subprocess.run([sys.executable, "compare.py"] + ARGS, cwd=folder, stdout=subprocess.PIPE, stderr=subprocess.PIPE, timeout=600)
+        except subprocess.TimeoutExpired:
+            return "no end", time.time() - start
     error = run.stderr.decode().strip().split("\n")[-1]
     if run.returncode and not error.startswith("DIFFERENT"):
         error = "the model itself fails: " + error
-    return error if run.returncode else None
+    return error.replace("DIFFERENT: ", "") if run.returncode else None, time.time() - start
+
+
+def shortened(text):
+    return " ".join(text.split())[:60]
 
 
 def main():
-    chosen = [int(x) for x in sys.argv[1:]] or range(len(EDITS))
+    some = sys.argv[1:] == ["--some"]
+    chosen = list(range(1, len(EDITS), 4)) if some else [int(x) for x in sys.argv[1:]] or list(range(len(EDITS)))
     missed = 0
-    for i in chosen:
-        path, old, new = EDITS[i]
-        how = noticed(path, old, new)
-        if how is None:
-            missed += 1
-            print("NOT NOTICED %d: %s: %r -> %r" % (i, path, old, new), flush=True)
-        else:
-            print("%d: %s" % (i, how), flush=True)
-    print("%d changes, %d not noticed" % (len(chosen), missed))
-    shutil.rmtree(COPY, ignore_errors=True)
+    with concurrent.futures.ThreadPoolExecutor(2) as pool:
+        for number, (how, seconds) in zip(chosen, pool.map(found, chosen)):
+            path, old, new = EDITS[number]
+            missed += how is None
+            print("%3d %4.0f s  %s: %s -> %s: %s" % (number, seconds, path, shortened(old), shortened(new) or "nothing", how or "NOT FOUND"), flush=True)
+    print("%d mistakes, %d not found" % (len(chosen), missed))
     sys.exit(1 if missed else 0)
 
 

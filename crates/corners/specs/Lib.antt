@@ -1,0 +1,4 @@
+pub mod Seen
+pub mod Records
+pub mod Adoption
+pub mod Rows

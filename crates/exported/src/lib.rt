@@ -1,0 +1,68 @@
+// The builder for tests and measurements written in C or Rust, which link it as a static library: requests on saved states, and
+// runs whose state is checked again. The memory is the caller's and may hold anything.
+use calls::begin;
+use calls::run;
+use state::Context;
+use state::Counts;
+use state::Flags;
+use state::Stack;
+use state::State;
+
+// Begin does not look at the state before it.
+fn before() -> State {
+    let stack = Stack::empty();
+    let counts = Counts {
+        nodes: 0,
+        pieces: 0,
+        pairs: 0,
+        list: 0,
+        modes: 0,
+    };
+    let flags = Flags { foster: 0, head: 0 };
+    State {
+        stack: stack,
+        counts: counts,
+        flags: flags,
+        context: Context::None,
+    }
+}
+
+// What the probe does: the first n bytes of the buffer are a saved state and a request; as many bytes of the answer as are returned.
+#[no_mangle]
+pub extern "C" fn exported_serve(
+    buffer: &[u8],
+    n: usize,
+    nodes: &mut [u8],
+    list: &mut [u16],
+    modes: &mut [u16],
+    pieces: &mut [u8],
+    pairs: &mut [u8],
+    out: &mut [u8],
+) -> usize {
+    saved::serve::serve_whole(buffer, n, nodes, list, modes, pieces, pairs, out)
+}
+
+// A begin, a run and, if asked for, a check of the state that was reached: 1 if it is sound or not asked for.
+#[no_mangle]
+pub extern "C" fn exported_checked(
+    nodes: &mut [u8],
+    list: &mut [u16],
+    modes: &mut [u16],
+    pieces: &mut [u8],
+    pairs: &mut [u8],
+    input: &[u8],
+    asked: bool,
+) -> usize {
+    let st = before();
+    let b = begin::begin(st, nodes, modes, Context::None);
+    let begun = b.state;
+    let r = run::run(begun, nodes, list, modes, pieces, pairs, input);
+    let after = r.state;
+    if !asked {
+        return 1;
+    }
+    if run::is_sound(after, nodes, list, modes, pieces, pairs) {
+        return 1;
+    }
+    0
+}
