@@ -3,9 +3,9 @@
     python3 tests/outside/run.py [--folder DIR] [--program PROVED] [--batch PROVED] [--oracle ORACLE] [--least N] [--show]
 
 The tests are those of Debian's package golang-golang-x-net-dev; without it nothing is run, and that is said. Each test that calls 1
-to 18 express is run on the model, on html5ever's own tree builder and on the proved program: all must print the expected tree. A test
-with a call that the proved program does not take yet is left out there. Fragments begin with a context, which the program does not: they are
-asked of the proved builder's batches (--batch tests/oracle/target/proved). The last line is `N tests, M differ`."""
+to 18 express is run on the model, on html5ever's own tree builder and on the proved program: all must print the expected tree.
+Fragments begin with a context, which the program does not: they are asked of the proved builder's batches (--batch
+tests/oracle/target/proved). The last line is `N tests, M differ`."""
 import argparse
 import collections
 import os
@@ -96,7 +96,7 @@ def batch(command):
 
 
 def ways(options, t, fragment):
-    """Who is asked, by name: the model, the Rust, and the proved builder if it takes all calls."""
+    """Who is asked, by name: the model, the Rust, and the proved builder."""
     if fragment:
         yield "the model", batch(None)
         if options.oracle:
