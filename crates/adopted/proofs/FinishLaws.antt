@@ -20,7 +20,7 @@ use Rattle.standard.specs.declared.Place.{Place}
 use Rattle.standard.specs.Place.{appropriatePlace, attached}
 use Rattle.standard.specs.Adoption.{placedAt, rehung}
 use Rattle.standard.specs.Adoption as def
-use Rattle.builder.proofs.SmallLaws.{size-of}
+use Rattle.small.proofs.Laws.{size-of}
 use Rattle.builder.proofs.InsertionLaws.{fresh-is}
 use Rattle.adopted.specs.declared.bookmark.Bookmark.{Bookmark}
 use Rattle.adopted.specs.declared.bookmark.Bookmark.the-variants.{Replace, InsertAfter}

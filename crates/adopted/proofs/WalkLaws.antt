@@ -9,17 +9,17 @@ use borrow.Author.Tests.{lt-ltb, le-ltb, eq-eqb, ne-eqb}
 use Rattle.arena.specs.Links.{appended, detached}
 use Rattle.arena.specs.Make.{copied}
 use Rattle.arena.specs.Room.{fresh}
-use Rattle.places.specs.Places.{Places, placesOf, at, without, swapped, placeOf}
+use Rattle.places.specs.Places.{Places, placesOf, at, without, withoutAny, swapped, placeOf}
 use Rattle.places.specs.declared.Found.{Found}
 use Rattle.places.specs.declared.Found.the-variants.{At, Nothing}
-use Rattle.places.proofs.Laws.{at-of}
+use Rattle.places.proofs.Laws.{at-of, without-in}
 use Rattle.state.specs.declared.Core.{Core}
 use Rattle.state.specs.declared.Context.{Context}
 use Rattle.state.specs.Fields.{setDepth, setCounts, setNodes, setList}
 use Rattle.state.specs.Full.{Full, full, withStack, withList, withNodes}
 use Rattle.standard.specs.Place.{node}
 use Rattle.standard.specs.Adoption.{leftStack, leftBoth, renewed, renewedIn}
-use Rattle.builder.proofs.SmallLaws.{stack-put}
+use Rattle.small.proofs.Laws.{stack-put}
 use Rattle.builder.proofs.InsertionLaws.{fresh-is}
 use Rattle.adopted.specs.declared.bookmark.Bookmark.{Bookmark}
 use Rattle.adopted.specs.declared.bookmark.Bookmark.the-variants.{Replace, InsertAfter}
@@ -49,10 +49,10 @@ module _ (s n l m p q : List ℕ) (x : Context) (c : Core) where
   unfolding withList withStack withNodes setDepth setNodes setList setCounts
   all-put s′ n′ l′ k d e P Q ek ed ee ep eq = rw (ee, ed, ek, ep, eq)
 
-  pub stack-left : (s′ : List ℕ) (i d : ℕ) {c′ : Core} → placesOf s′ d ≡ without (placesOf s (c .depth)) i → c′ ≡ setDepth c d
+  pub stack-left : (s′ : List ℕ) (i d : ℕ) {c′ : Core} → i < c .depth → placesOf s′ d ≡ withoutAny (placesOf s (c .depth)) i → c′ ≡ setDepth c d
       → full s′ c′ x n l m p q ≡ leftStack (full s c x n l m p q) i
   unfolding leftStack
-  stack-left s′ i d es ed = stack-put s n l m p q x c s′ d _ es ed
+  stack-left s′ i d lt es ed = stack-put s n l m p q x c s′ d _ (es ∙ without-in s (c .depth) i lt) ed
 
   pub both-left : (s′ l′ : List ℕ) (i j d e : ℕ) {c₁ c′ : Core} → placesOf s′ d ≡ without (placesOf s (c .depth)) i
       → placesOf l′ e ≡ without (placesOf l (c .counts .list)) j → c₁ ≡ setDepth c d → c′ ≡ setList c₁ e

@@ -100,7 +100,7 @@ fn turn(
     let mark = w.mark;
     match places::find(list, core.counts.list, h[i]) {
         Found::Nothing => {
-            let depth = places::remove_at(h, core.depth, i);
+            let depth = places::leave_at(h, core.depth, i);
             Walk {
                 core: core.with_depth(depth),
                 last: last,

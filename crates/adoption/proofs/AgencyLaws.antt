@@ -22,29 +22,35 @@ use Rattle.state.specs.Fields.{setDepth, setList}
 use Rattle.state.specs.Full.{Full, Result, full, result, done}
 use Rattle.standard.specs.Html.{isHtml}
 use Rattle.standard.specs.Stack.{shorter}
-use Rattle.standard.specs.Adoption.{entryOf, rounded, rounds, currentAt, agency, fewNodes, adoption, leaves, misnestedAt, misnested}
-use Rattle.builder.proofs.SmallLaws.{size-of, stack-put}
+use Rattle.standard.specs.Adoption.{Turn, entryOf, rounded, rounds, currentAt, agency, fewNodes, adoption, leaves, misnestedAt, misnested}
+use Rattle.small.proofs.Laws.{size-of, stack-put}
 use Rattle.stacks.proofs.StackLaws.{current-of}
-use Rattle.adoption.specs.Turns.{turnOf}
+use Rattle.adoption.specs.Turns.{turnOf, further}
 use Rattle.adoption.proofs.TurnLaws.{both-put}
 
--- ---- the rounds: k of them are left
+-- ---- the rounds: after the first, k of them are left
 
-pub rounds-none : (f : Full) (name k : ℕ) → k ≤ 0 → f ≡ rounds f name k
-unfolding rounds
-rounds-none f name zero h = refl
-rounds-none f name (suc k) h = absurd (omega arith)
+pub rounds-first : (f : Full) (name : ℕ) {t : Turn} → t ≡ rounded f name → further t name 7 ≡ rounds f name 8
+unfolding rounds further
+rounds-first f name e = rw e
 
-module _ (f : Full) (name : ℕ) {b : Bool} {y : Full} (e : turnOf b y ≡ rounded f name) where
-  pub rounds-last : (k : ℕ) → 0 < k → b ≡ false → y ≡ rounds f name k
-  unfolding rounds
-  rounds-last zero h eb = absurd (omega arith)
-  rounds-last (suc k) h eb = rw (← e, eb)
+further-zero : (b : Bool) (f : Full) (name : ℕ) → f ≡ further (turnOf b f) name 0
+unfolding further rounds
+further-zero true f name = refl
+further-zero false f name = refl
 
-  pub rounds-on : (k : ℕ) → 0 < k → b ≡ true → rounds f name k ≡ rounds y name (k - 1)
-  unfolding rounds
-  rounds-on zero h eb = absurd (omega arith)
-  rounds-on (suc k) h eb = rw (← e, eb, sub-one)
+module _ (b : Bool) (f : Full) (name : ℕ) where
+  pub further-none : (k : ℕ) → k ≤ 0 → f ≡ further (turnOf b f) name k
+  further-none k h = let z : k ≡ 0 = omega arith in rw z (further-zero b f name)
+
+  pub further-stay : (j k : ℕ) → b ≡ false → further (turnOf b f) name k ≡ further (turnOf b f) name j
+  unfolding further
+  further-stay j k e = rw e
+
+  pub further-on : (k : ℕ) {t : Turn} → 0 < k → b ≡ true → t ≡ rounded f name → further (turnOf b f) name k ≡ further t name (k - 1)
+  unfolding further rounds
+  further-on zero h e et = absurd (omega arith)
+  further-on (suc k) h e et = rw (e, et, sub-one)
 
 module _ (s n l m p q : List ℕ) (x : Context) (c : Core) where
   -- ---- 2

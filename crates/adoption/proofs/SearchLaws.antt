@@ -9,7 +9,7 @@ use lib.ListN.{length, getD, take}
 use lib.Seq.{length-take-le, getD-take}
 use borrow.Author.Tests.{eq-eqb, ne-eqb, eqb-true}
 use Rattle.names.specs.Sets.{Special}
-use Rattle.places.specs.Places.{placesOf, at, same, never, down, placeOf}
+use Rattle.places.specs.Places.{placesOf, at, same, never, down, firstOf, placeOf}
 use Rattle.places.specs.declared.Found.{Found}
 use Rattle.places.specs.declared.Found.the-variants.{At, Nothing}
 use Rattle.places.proofs.Laws.{down-none, down-hit, down-stop, down-on, lastWith-of, lastWith-lt, place-lt, at-of}
@@ -82,6 +82,23 @@ unfolding specialFrom
 special-take m h d k zero le = refl
 special-take m h d k (suc j) le = rw (getD-take d h k 0 (omega arith), special-take m h d (k + 1) j (omega arith))
 
+first-last : (o : Found) → firstOf o Nothing ≡ o
+unfolding firstOf
+first-last (At i) = refl
+first-last Nothing = refl
+
+first-step : (o : Found) (b : Bool) (k : ℕ) (r : Found) → firstOf o (cond b (At k) r) ≡ firstOf (firstOf o (cond b (At k) Nothing)) r
+unfolding firstOf
+first-step (At i) b k r = refl
+first-step Nothing true k r = refl
+first-step Nothing false k r = refl
+
+pub special-is : {b : Bool} {v : Bool} (k : ℕ) → b ≡ v → b ≡ true → At k ≡ cond v (At k) Nothing
+special-is k eb e = rw (sym eb ∙ e)
+
+pub special-not : {b : Bool} {v : Bool} (k : ℕ) → b ≡ v → b ≡ false → Nothing ≡ cond v (At k) Nothing
+special-not k eb e = rw (sym eb ∙ e)
+
 module _ (m h : List ℕ) (d s : ℕ) (lt : s < d) (le : d ≤ length h) where
   furthest-of : furthestOf m (placesOf h d) s ≡ specialFrom m h (s + 1) (d - (s + 1))
   unfolding furthestOf placesOf
@@ -93,16 +110,17 @@ module _ (m h : List ℕ) (d s : ℕ) (lt : s < d) (le : d ≤ length h) where
       let l : length (take d h) ≡ d = length-take-le d h le in
       rw l at (adopted-laws.furthest-lt m (placesOf h d) s b (rw l lt) (sym eo ∙ e))
 
-  -- the places before k are passed
-  module _ (k : ℕ) (inv : specialFrom m h (s + 1) (d - (s + 1)) ≡ specialFrom m h k (d - k)) where
-    pub furthest-end : d ≤ k → Nothing ≡ furthestOf m (placesOf h d) s
+  -- the places before k are passed, and o is the first of them that is special
+  module _ (k : ℕ) (o : Found) (inv : specialFrom m h (s + 1) (d - (s + 1)) ≡ firstOf o (specialFrom m h k (d - k))) where
+    pub furthest-end : d ≤ k → o ≡ furthestOf m (placesOf h d) s
     furthest-end g =
         let z : d - k ≡ 0 = omega arith in
-        special-zero m h k ∙ ap (specialFrom m h k) (sym z) ∙ sym inv ∙ sym furthest-of
+        sym (furthest-of ∙ inv ∙ ap (λ (j : ℕ). firstOf o (specialFrom m h k j)) z ∙ ap (firstOf o) (sym (special-zero m h k)) ∙ first-last o)
 
-    module _ (g : k < d) {b : Bool} (eb : b ≡ isOf Special m (getD h k 0)) where
-      pub furthest-hit : b ≡ true → At k ≡ furthestOf m (placesOf h d) s
-      furthest-hit e = sym (furthest-of ∙ inv ∙ special-step m h k d g ∙ rw (sym eb ∙ e))
-
-      pub furthest-on : b ≡ false → specialFrom m h (s + 1) (d - (s + 1)) ≡ specialFrom m h (k + 1) (d - (k + 1))
-      furthest-on e = inv ∙ special-step m h k d g ∙ rw (sym eb ∙ e)
+    pub furthest-on : k < d → {a b : Found} → a ≡ cond (isOf Special m (getD h k 0)) (At k) Nothing → b ≡ firstOf o a
+        → specialFrom m h (s + 1) (d - (s + 1)) ≡ firstOf b (specialFrom m h (k + 1) (d - (k + 1)))
+    furthest-on g ea eb =
+        inv
+        ∙ ap (firstOf o) (special-step m h k d g)
+        ∙ first-step o (isOf Special m (getD h k 0)) k (specialFrom m h (k + 1) (d - (k + 1)))
+        ∙ rw (eb, ea)

@@ -61,11 +61,18 @@ module _ (s n l m p q : List ℕ) (x : Context) (c : Core) where
 
   -- ---- 4.3
 
-  module _ (name : ℕ) {o : Found} (eo : o ≡ entryOf n (placesOf l (c .counts .list)) name) where
-    pub entry-none : {y : Full} → o ≡ Nothing → y ≡ withStack (full s c x n l m p q) (endTag n (placesOf s (c .depth)) name) → turnOf false y ≡ rounded (full s c x n l m p q) name
-    unfolding rounded entryAt
+  module _ (subject token : ℕ) {o : Found} (eo : o ≡ entryOf n (placesOf l (c .counts .list)) subject) where
+    pub entry-none : {y : Full} → o ≡ Nothing → y ≡ withStack (full s c x n l m p q) (endTag n (placesOf s (c .depth)) token)
+        → turnOf false y ≡ entryAt (entryOf n (placesOf l (c .counts .list)) subject) (full s c x n l m p q) token
+    unfolding entryAt
     entry-none e ey = ap (turnOf false) ey ∙ rw (sym eo ∙ e)
 
-    pub entry-at : {j : ℕ} {y : Turn} → o ≡ At j → y ≡ opened (full s c x n l m p q) j → y ≡ rounded (full s c x n l m p q) name
-    unfolding rounded entryAt
+    pub entry-at : {j : ℕ} {y : Turn} → o ≡ At j → y ≡ opened (full s c x n l m p q) j
+        → y ≡ entryAt (entryOf n (placesOf l (c .counts .list)) subject) (full s c x n l m p q) token
+    unfolding entryAt
     entry-at e ey = ey ∙ rw (sym eo ∙ e)
+
+  -- the token's name is the subject
+  pub round-of : (name : ℕ) {t : Turn} → t ≡ entryAt (entryOf n (placesOf l (c .counts .list)) name) (full s c x n l m p q) name → t ≡ rounded (full s c x n l m p q) name
+  unfolding rounded
+  round-of name e = e

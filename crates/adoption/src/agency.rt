@@ -10,8 +10,10 @@ ghost use Rattle.state.specs.Full.{full, result};
 ghost use Rattle.standard.specs.Adoption.{rounds, currentAt, adoption, leaves, misnestedAt, misnested};
 ghost use Rattle.standard.specs.Adoption as def;
 ghost use Rattle.adopted.specs.Firm.{Firm};
+ghost use Rattle.adoption.specs.Turns.{turnOf, further};
 use crate::search;
 use crate::turns;
+use crate::turns::Round;
 use builder::html;
 use lent::Node;
 use names::Namespace;
@@ -27,22 +29,32 @@ const ROUNDS: usize = 8;
 // The nodes that have to be free: four for each round.
 const ROOM: usize = 32;
 
+// 4 after its first round, r: the count goes on to the end, and there is a round as long as the one before it asks for it.
+fn later_rounds(h: &mut [u16], r: Round, nodes: &mut [u8], list: &mut [u16], name: u16) -> Core
+    requires { ⌜ Firm (placesOf (now h) (r .core .depth)) (placesOf (now list) (r .core .counts .list)) (r .core .counts .nodes) 7 ⌝ }
+    ensures { λ o. ⌜ ((m p q : List ℕ) (x : Context) → full (now (h .exit)) o x (now (nodes .exit)) (now (list .exit)) m p q ≡ further (turnOf (r .again) (full (now (h .entry)) (r .core) x (now (nodes .entry)) (now (list .entry)) m p q)) name 7) ⌝ }
+{
+    let mut c = r.core;
+    let mut again = r.again;
+    let mut left = ROUNDS - 1;
+    while 0 < left {
+        left -= 1;
+        if again {
+            let next = turns::one_round(h, c, nodes, list, name, name);
+            c = next.core;
+            again = next.again;
+        }
+    }
+    c
+}
+
 // 4.
 fn all_rounds(h: &mut [u16], core: Core, nodes: &mut [u8], list: &mut [u16], name: u16) -> Core
     requires { ⌜ Firm (placesOf (now h) (core .depth)) (placesOf (now list) (core .counts .list)) (core .counts .nodes) 8 ⌝ }
     ensures { λ r. ⌜ ((m p q : List ℕ) (x : Context) → full (now (h .exit)) r x (now (nodes .exit)) (now (list .exit)) m p q ≡ rounds (full (now (h .entry)) core x (now (nodes .entry)) (now (list .entry)) m p q) name 8) ⌝ }
 {
-    let mut c = core;
-    let mut left = ROUNDS;
-    while 0 < left {
-        let r = turns::one_round(h, c, nodes, list, name);
-        c = r.core;
-        if !r.again {
-            return c;
-        }
-        left -= 1;
-    }
-    c
+    let first = turns::one_round(h, core, nodes, list, name, name);
+    later_rounds(h, first, nodes, list, name)
 }
 
 // 2 to 4, where the current node, top, has the name.

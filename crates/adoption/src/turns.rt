@@ -7,7 +7,7 @@ ghost use Rattle.places.specs.Places.{placesOf, placeOf};
 ghost use Rattle.places.specs.declared.Found.the-variants.{At};
 ghost use Rattle.state.specs.declared.Context.{Context};
 ghost use Rattle.state.specs.Full.{full};
-ghost use Rattle.standard.specs.Adoption.{blocked, scoped, opened, rounded};
+ghost use Rattle.standard.specs.Adoption.{entryOf, blocked, scoped, opened, entryAt};
 ghost use Rattle.adopted.specs.Firm.{Firm};
 ghost use Rattle.adoption.specs.Turns.{turnOf};
 use crate::search;
@@ -97,14 +97,21 @@ fn with_entry(h: &mut [u16], core: Core, nodes: &mut [u8], list: &mut [u16], j: 
     }
 }
 
-// 4.3 to 4.19: without a formatting element the end-tag path, in any round.
-pub fn one_round(h: &mut [u16], core: Core, nodes: &mut [u8], list: &mut [u16], name: u16) -> Round
+// 4.3 to 4.19: the formatting element is looked for by subject; without one the end-tag path is for the token, in any round.
+pub fn one_round(
+    h: &mut [u16],
+    core: Core,
+    nodes: &mut [u8],
+    list: &mut [u16],
+    subject: u16,
+    token: u16,
+) -> Round
     requires { ⌜ Firm (placesOf (now h) (core .depth)) (placesOf (now list) (core .counts .list)) (core .counts .nodes) 1 ⌝ }
-    ensures { λ r. ⌜ ((m p q : List ℕ) (x : Context) → turnOf (r .again) (full (now (h .exit)) (r .core) x (now (nodes .exit)) (now (list .exit)) m p q) ≡ rounded (full (now (h .entry)) core x (now (nodes .entry)) (now (list .entry)) m p q) name) ⌝ }
+    ensures { λ r. ⌜ ((m p q : List ℕ) (x : Context) → turnOf (r .again) (full (now (h .exit)) (r .core) x (now (nodes .exit)) (now (list .exit)) m p q) ≡ entryAt (entryOf (now (nodes .entry)) (placesOf (now (list .entry)) (core .counts .list)) subject) (full (now (h .entry)) core x (now (nodes .entry)) (now (list .entry)) m p q) token) ⌝ }
 {
-    match search::entry(nodes, list, core.counts.list, name) {
+    match search::entry(nodes, list, core.counts.list, subject) {
         Found::Nothing => Round {
-            core: close::end_tag(h, core, nodes, name),
+            core: close::end_tag(h, core, nodes, token),
             again: false,
         },
         Found::At(j) => with_entry(h, core, nodes, list, j),

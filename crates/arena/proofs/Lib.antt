@@ -6,3 +6,4 @@ pub mod Others
 pub mod Made
 pub mod Ancestors
 pub mod Pieces
+pub mod Lowest

@@ -14,7 +14,7 @@ use Rattle.theory.specs.Fn.{put, put-upd}
 use Rattle.theory.specs.Kids.{Fresh, created}
 use Rattle.lent.specs.Mem.{NODES, slots, inside, field, putField, KIND, PARENT, PREV, NEXT, FIRST, LAST, TIE, SPACE, NAME, MARK, START, COUNT, PIECE, END, DOCUMENT, ELEMENT, TEXT, COMMENT, CONTENTS}
 use Rattle.lent.proofs.Kit.{reads, length-store}
-use Rattle.arena.specs.Make.{bareLinks, bareRest, bare, tagged, plain, tied, document, comment, text}
+use Rattle.arena.specs.Make.{bareLinks, bareRest, bare, tagged, plain, tied, document, comment, text, copied, tagOf}
 use Rattle.lent.specs.Tree as tree
 use Rattle.arena.specs.declared.make.Tag.{Tag}
 use Rattle.arena.proofs.Lengths.{slots-same}
@@ -148,6 +148,11 @@ module _ (m : List ℕ) (n : ℕ) (i : inside NODES m n ≡ true) where
   pub plain-fields : (t : Tag) → Fields (plain m n t) n ELEMENT t 0 0
   unfolding plain
   plain-fields t = tagged-fields (bare-made m n i ELEMENT) (in-bare ELEMENT) t (bare-fields m n i ELEMENT)
+
+  -- a copy has the tag of the node copied, and with it shares the stored attributes
+  pub copied-fields : (x : ℕ) → Fields (copied m n x) n ELEMENT (tagOf m x) 0 0
+  unfolding copied
+  copied-fields x = plain-fields (tagOf m x)
 
   pub comment-made : (x : ℕ) → Made m (comment m n x) n
   unfolding comment

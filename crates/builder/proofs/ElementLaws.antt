@@ -24,7 +24,7 @@ use Rattle.standard.specs.Place.{attached}
 use Rattle.standard.specs.Pairs.{pairsIn, fine, stored}
 use Rattle.standard.specs.Insertion.{usualPlace, pushes, isMarkable, badTag, badPairs, newTag, elementIn, pushedIf, elementDone, elementRoom, inserted-element}
 use Rattle.standard.specs.declared.Place.{Place}
-use Rattle.builder.proofs.SmallLaws.{size-of, stack-put}
+use Rattle.small.proofs.Laws.{size-of, stack-put}
 use Rattle.builder.proofs.InsertionLaws.{fresh-is}
 
 -- ---- answer 2

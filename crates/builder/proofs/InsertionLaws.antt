@@ -14,7 +14,7 @@ use Rattle.state.specs.declared.Core.{Core}
 use Rattle.state.specs.declared.Context.{Context}
 use Rattle.state.specs.Fields.{setDepth, setCounts, setNodes, setPieces, setPairs}
 use Rattle.state.specs.Full.{Full, Result, full, result, refused, done, withStack, withNodes, withPieces, withPairs}
-use Rattle.builder.proofs.SmallLaws.{size-of}
+use Rattle.small.proofs.Laws.{size-of}
 use Rattle.standard.specs.Html.{current}
 use Rattle.standard.specs.Place.{node, appropriatePlace, attached, textBefore}
 use Rattle.standard.specs.Insertion.{usualPlace, joinedText, newText, textAt, inserted-text, commentPlace, commentAt, inserted-comment}

@@ -1,5 +1,4 @@
 pub mod Laws
-pub mod SmallLaws
 pub mod PairsLaws
 pub mod InsertionLaws
 pub mod ElementLaws

@@ -1,7 +1,6 @@
-// The calls on a state that has been checked: insertion (module 5), the places for it (module 4), and the calls that touch places
-// and flags alone. Each says what it does to the whole state, for any part of it that it is not lent.
+// The calls on a state that has been checked: insertion (module 5) and the places for it (module 4). Each says what it does to the
+// whole state, for any part of it that it is not lent.
 pub mod html;
 pub mod insertion;
 pub mod pairs;
 pub mod place;
-pub mod small;

@@ -2,3 +2,4 @@ pub mod Seen
 pub mod Records
 pub mod Adoption
 pub mod Rows
+pub mod Reached

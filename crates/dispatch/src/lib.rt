@@ -12,7 +12,6 @@ ghost use Rattle.standard.specs.Insertion.{inserted-element};
 ghost use Rattle.standard.specs.Step.{asked, middleStep, lowStep, highStep, step};
 use adoption::agency;
 use builder::insertion;
-use builder::small;
 use formatting::create;
 use formatting::reconstruct;
 use stacks::close;

@@ -8,40 +8,18 @@ use calls::begin;
 use calls::run;
 use dump::Cursor;
 use state::Context;
-use state::Counts;
-use state::Flags;
-use state::Stack;
 use state::State;
 
 // How much of standard input is run.
 const MOST: usize = 16384;
 
-// More lines than any tree of 2,048 nodes has: a node has its own, one for each of its pairs, and one for its contents.
-const LINES: usize = 8394752;
+// The most lines that a tree of 2,048 nodes has: a node has its own and one for each of its 16 attributes (`few-lines` in `shown`).
+const LINES: usize = 34816;
 
 // What was run.
 struct Done {
     answer: usize,
     records: usize,
-}
-
-// Begin does not look at the state before it.
-fn before() -> State {
-    let stack = Stack::empty();
-    let counts = Counts {
-        nodes: 0,
-        pieces: 0,
-        pairs: 0,
-        list: 0,
-        modes: 0,
-    };
-    let flags = Flags { foster: 0, head: 0 };
-    State {
-        stack: stack,
-        counts: counts,
-        flags: flags,
-        context: Context::None,
-    }
 }
 
 // Input past the most that is run counts as a cut record after it.
@@ -78,7 +56,7 @@ fn leaflet(
 ) -> Done {
     let k = part(n, buffer.len());
     let input = &buffer[..k];
-    let st = before();
+    let st = State::empty();
     let b = begin::begin(st, nodes, modes, Context::None);
     let begun = b.state;
     let r = run::run(begun, nodes, list, modes, pieces, pairs, input);
@@ -109,9 +87,9 @@ fn print_tree(nodes: &[u8], pieces: &[u8], pairs: &[u8], line: &mut [u8]) {
 }
 
 fn print_done(d: Done, line: &mut [u8]) {
-    let a = saved::serve::put_text(line, 0, b"records ");
+    let a = saved::save::put_text(line, 0, b"records ");
     let b = saved::save::put_decimal(line, a, d.records);
-    let c = saved::serve::put_text(line, b, b" answer ");
+    let c = saved::save::put_text(line, b, b" answer ");
     let e = saved::save::put_decimal(line, c, d.answer);
     let f = saved::save::put(line, e, b'\n');
     print(line, f);

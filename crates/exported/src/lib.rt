@@ -3,29 +3,7 @@
 use calls::begin;
 use calls::run;
 use state::Context;
-use state::Counts;
-use state::Flags;
-use state::Stack;
 use state::State;
-
-// Begin does not look at the state before it.
-fn before() -> State {
-    let stack = Stack::empty();
-    let counts = Counts {
-        nodes: 0,
-        pieces: 0,
-        pairs: 0,
-        list: 0,
-        modes: 0,
-    };
-    let flags = Flags { foster: 0, head: 0 };
-    State {
-        stack: stack,
-        counts: counts,
-        flags: flags,
-        context: Context::None,
-    }
-}
 
 // What the probe does: the first n bytes of the buffer are a saved state and a request; as many bytes of the answer as are returned.
 #[no_mangle]
@@ -39,7 +17,7 @@ pub extern "C" fn exported_serve(
     pairs: &mut [u8],
     out: &mut [u8],
 ) -> usize {
-    saved::serve::serve_whole(buffer, n, nodes, list, modes, pieces, pairs, out)
+    served::serve_whole(buffer, n, nodes, list, modes, pieces, pairs, out)
 }
 
 // A begin, a run and, if asked for, a check of the state that was reached: 1 if it is sound or not asked for.
@@ -53,7 +31,7 @@ pub extern "C" fn exported_checked(
     input: &[u8],
     asked: bool,
 ) -> usize {
-    let st = before();
+    let st = State::empty();
     let b = begin::begin(st, nodes, modes, Context::None);
     let begun = b.state;
     let r = run::run(begun, nodes, list, modes, pieces, pairs, input);

@@ -29,7 +29,7 @@ use Rattle.standard.specs.Small.{room}
 use Rattle.standard.specs.Pairs.{pairsIn, fine}
 use Rattle.standard.specs.Insertion.{badTag, badPairs, newTag, elementIn, pushedIf, elementDone, elementRoom, inserted-element}
 use Rattle.standard.specs.Formatting.{sameTag, surplus, spared, listed, createdRoom, createdFor, badFormatting, created}
-use Rattle.builder.proofs.SmallLaws.{size-of}
+use Rattle.small.proofs.Laws.{size-of}
 use Rattle.builder.proofs.InsertionLaws.{fresh-is, nodes-few}
 use Rattle.builder.proofs.ElementLaws.{many-pairs, few-pairs}
 use Rattle.formatting.proofs.SurplusLaws.{surplus-lt}

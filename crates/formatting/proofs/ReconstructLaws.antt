@@ -25,7 +25,7 @@ use Rattle.standard.specs.Insertion.{usualPlace}
 use Rattle.standard.specs.Stack.{isFound}
 use Rattle.standard.specs.Formatting.{after, isMarkerOrOpen, firstLost, anewAt, anew, anewRoom, reconstructed}
 use Rattle.standard.specs.declared.Place.{Place}
-use Rattle.builder.proofs.SmallLaws.{size-of}
+use Rattle.small.proofs.Laws.{size-of}
 use Rattle.builder.proofs.InsertionLaws.{usual-is, fresh-is}
 
 -- ---- the entries that are lost

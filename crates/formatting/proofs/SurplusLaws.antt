@@ -11,11 +11,12 @@ use lib.ListN.{length, getD, take, drop, length-drop}
 use lib.Seq.{drop-cons, getD-take, length-take-le}
 use lib.Dec.{ltb}
 use borrow.Author.Tests.{lt-ltb, le-ltb, ltb-true}
-use Rattle.places.specs.Places.{Places, placesOf, placeOf}
+use Rattle.places.specs.Places.{Places, placesOf, placeOf, firstOf}
 use Rattle.places.specs.declared.Found.{Found}
 use Rattle.places.specs.declared.Found.the-variants.{At, Nothing}
 use Rattle.standard.specs.Small.{MARKER}
 use Rattle.standard.specs.Formatting.{after, howMany, before, afterMarker, surplus}
+use Rattle.formatting.specs.First.{firstWith}
 
 pub marker-at : (l : Places) {o : Found} {i : ℕ} → o ≡ placeOf l MARKER → o ≡ At i → i + 1 ≡ afterMarker l
 unfolding afterMarker after
@@ -39,13 +40,39 @@ many-cons : (p : ℕ → Bool) (x : ℕ) (xs : List ℕ) → howMany p (x ∷ xs
 unfolding howMany
 many-cons p x xs = refl
 
-before-none : (p : ℕ → Bool) → before p [] ≡ 0
-unfolding before
-before-none p = refl
-
 before-cons : (p : ℕ → Bool) (x : ℕ) (xs : List ℕ) → before p (x ∷ xs) ≡ cond (p x) 0 (suc (before p xs))
 unfolding before
 before-cons p x xs = refl
+
+first-empty : (p : ℕ → Bool) (k : ℕ) → firstWith p [] k ≡ Nothing
+unfolding firstWith
+first-empty p k = refl
+
+first-cons : (p : ℕ → Bool) (x : ℕ) (xs : List ℕ) (k : ℕ) → firstWith p (x ∷ xs) k ≡ cond (p x) (At k) (firstWith p xs (k + 1))
+unfolding firstWith
+first-cons p x xs k = refl
+
+-- what was found goes before the entry k, and that before the ones after it
+found-one : (b : Bool) (k : ℕ) (f r : Found) → firstOf (firstOf f (cond b (At k) Nothing)) r ≡ firstOf f (cond b (At k) r)
+unfolding firstOf
+found-one b k (At i) r = refl
+found-one true k Nothing r = refl
+found-one false k Nothing r = refl
+
+found-all : (f : Found) → firstOf f Nothing ≡ f
+unfolding firstOf
+found-all (At i) = refl
+found-all Nothing = refl
+
+pub found-none : (r : Found) → firstOf Nothing r ≡ r
+unfolding firstOf
+found-none r = refl
+
+pub one-at : {b : Bool} (i : ℕ) {B : Bool} → b ≡ B → b ≡ true → At i ≡ cond B (At i) Nothing
+one-at i eb e = rw (← eb, e)
+
+pub one-none : {b : Bool} (i : ℕ) {B : Bool} → b ≡ B → b ≡ false → Nothing ≡ cond B (At i) Nothing
+one-none i eb e = rw (← eb, e)
 
 drop-past : (xs : List ℕ) (i : ℕ) → length xs ≤ i → drop i xs ≡ []
 drop-past [] zero h = refl
@@ -69,29 +96,43 @@ module _ (p : ℕ → Bool) (l : List ℕ) (size i : ℕ) (le : size ≤ length 
   pub many-end : (n : ℕ) {G : ℕ} → size ≤ i → G ≡ n + howMany p (drop i (take size l)) → n ≡ G
   many-end n h g = let e : howMany p (drop i (take size l)) ≡ 0 = ap (howMany p) (rest-none h) ∙ many-none p in omega arith
 
-  pub before-hit : {G : ℕ} {b : Bool} → i < size → b ≡ p (getD l i 0) → b ≡ true → G ≡ i + before p (drop i (take size l)) → i ≡ G
-  before-hit h eb e g =
-      let f : before p (drop i (take size l)) ≡ 0 = ap (before p) (rest-cons h) ∙ before-cons p (getD l i 0) (drop (i + 1) (take size l)) ∙ rw (← eb, e) in
-      omega arith
+  pub first-turn : (f : Found) {here next G : Found} → i < size → here ≡ cond (p (getD l i 0)) (At i) Nothing → next ≡ firstOf f here → firstOf f (firstWith p (drop i (take size l)) i) ≡ G → firstOf next (firstWith p (drop (i + 1) (take size l)) (i + 1)) ≡ G
+  first-turn f h eh en g =
+      let rest = drop (i + 1) (take size l) in
+      ap (λ (o : Found). firstOf o (firstWith p rest (i + 1))) (en ∙ ap (firstOf f) eh)
+      ∙ found-one (p (getD l i 0)) i f (firstWith p rest (i + 1))
+      ∙ ap (firstOf f) (sym (ap (λ (xs : List ℕ). firstWith p xs i) (rest-cons h) ∙ first-cons p (getD l i 0) rest i))
+      ∙ g
 
-  pub before-turn : {G : ℕ} {b : Bool} → i < size → b ≡ p (getD l i 0) → b ≡ false → G ≡ i + before p (drop i (take size l)) → G ≡ (i + 1) + before p (drop (i + 1) (take size l))
-  before-turn h eb e g =
-      let f : before p (drop i (take size l)) ≡ suc (before p (drop (i + 1) (take size l))) = ap (before p) (rest-cons h) ∙ before-cons p (getD l i 0) (drop (i + 1) (take size l)) ∙ rw (← eb, e) in
-      omega arith
-
-  pub before-end : {G : ℕ} → size ≤ i → G ≡ i + before p (drop i (take size l)) → i ≡ G
-  before-end h g = let e : before p (drop i (take size l)) ≡ 0 = ap (before p) (rest-none h) ∙ before-none p in omega arith
+  pub first-end : (f : Found) {G : Found} → size ≤ i → firstOf f (firstWith p (drop i (take size l)) i) ≡ G → f ≡ G
+  first-end f h g = sym (found-all f) ∙ ap (firstOf f) (sym (ap (λ (xs : List ℕ). firstWith p xs i) (rest-none h) ∙ first-empty p i)) ∙ g
 
 -- ---- the whole
+
+-- where one has p, the first has as many before it as are not it
+first-is : (p : ℕ → Bool) (xs : List ℕ) (k : ℕ) → 0 < howMany p xs → firstWith p xs k ≡ At (k + before p xs)
+first-is p [] k h = absurd (omega (arith, many-none p))
+first-is p (x ∷ xs) k h = by (p x) refl (first-is p xs (k + 1))
+  where
+    by : (b : Bool) → p x ≡ b → (0 < howMany p xs → firstWith p xs (k + 1) ≡ At ((k + 1) + before p xs)) → firstWith p (x ∷ xs) k ≡ At (k + before p (x ∷ xs))
+    by true e r =
+        let f : before p (x ∷ xs) ≡ 0 = before-cons p x xs ∙ rw e in
+        let n : k ≡ k + before p (x ∷ xs) = omega arith in
+        first-cons p x xs k ∙ (rw e) ∙ ap At n
+    by false e r =
+        let f : before p (x ∷ xs) ≡ suc (before p xs) = before-cons p x xs ∙ rw e in
+        let g : howMany p (x ∷ xs) ≡ 0 + howMany p xs = many-cons p x xs ∙ rw e in
+        let n : (k + 1) + before p xs ≡ k + before p (x ∷ xs) = omega arith in
+        first-cons p x xs k ∙ (rw e) ∙ r (omega arith) ∙ ap At n
 
 module _ (p : ℕ → Bool) (l : List ℕ) (size : ℕ) {first : ℕ} (ef : first ≡ afterMarker (placesOf l size)) {k : ℕ} (ek : k ≡ howMany p (drop first (take size l))) where
   pub surplus-none : k < 3 → Nothing ≡ surplus p (placesOf l size)
   unfolding surplus placesOf
   surplus-none h = rw (← ef, ← ek, le-ltb 2 k (omega arith))
 
-  pub surplus-at : {i : ℕ} → 3 ≤ k → i ≡ first + before p (drop first (take size l)) → At i ≡ surplus p (placesOf l size)
+  pub surplus-at : {o : Found} → 3 ≤ k → o ≡ firstWith p (drop first (take size l)) first → o ≡ surplus p (placesOf l size)
   unfolding surplus placesOf
-  surplus-at h ei = rw (← ef, ← ek, lt-ltb 2 k (omega arith), ei)
+  surplus-at h eo = eo ∙ first-is p (drop first (take size l)) first (omega arith) ∙ rw (← ef, ← ek, lt-ltb 2 k (omega arith))
 
 -- the entry is one of those in use
 before-lt : (p : ℕ → Bool) (xs : List ℕ) → 0 < howMany p xs → before p xs < length xs

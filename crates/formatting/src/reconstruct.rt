@@ -18,15 +18,12 @@ use state::Core;
 use state::Done;
 use state::Stack;
 
-// A marker's number in the formatting list.
-const MARKER: u16 = 65535;
-
 // The entry is a marker, or open.
 fn is_marker_or_open(h: &[u16], depth: usize, n: u16) -> bool
     requires { ⌜ depth ≤ length (now h) ⌝ }
     ensures { λ r. ⌜ r ≡ isMarkerOrOpen (placesOf (now (h .entry)) depth) n ⌝ }
 {
-    if n == MARKER {
+    if n == Node::MARKER {
         return true;
     }
     match places::find(h, depth, n) {

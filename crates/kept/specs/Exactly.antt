@@ -60,6 +60,17 @@ module _ (p : ℕ → Bool) where
               apart (yes y) = absurd (let w : _≡_ {A = Bool} true false = sym e ∙ rw (← y) g in let v : _≡_ {A = ℕ} 0 1 = cc in omega arith)
               apart (no y) = omega arith
 
+module _ (r : Refusals) where
+  -- the lowest number that applies does
+  pub lowest-applies : lowest r ≢ 0 → applies r (lowest r) ≡ true
+  unfolding lowest
+  lowest-applies d = least-has (applies r) 7 2 d
+
+  -- and no lower one does
+  pub lowest-least : (k : ℕ) → 2 ≤ k → k ≤ 8 → applies r k ≡ true → (0 < lowest r) × (lowest r ≤ k)
+  unfolding lowest
+  lowest-least k a b e = least-le (applies r) 7 2 k (omega arith) a (omega arith) e
+
 -- ---- calls of one shape
 
 module _ (f g : Full) where
@@ -253,10 +264,8 @@ module _ (s : List ℕ) (f : Full) (r : Asked) where
 
   -- a refusal's number applies
   pub answer-applies : step s r f .answer ≢ 0 → applies (refusalsOf s r f) (step s r f .answer) ≡ true
-  unfolding lowest
-  answer-applies d = rw step-exact (least-has (applies (refusalsOf s r f)) 7 2 (rw step-exact at d))
+  answer-applies d = rw step-exact (lowest-applies (refusalsOf s r f) (rw step-exact at d))
 
   -- where a number applies, the call is refused, with that number or a lower one
   pub answer-lowest : (k : ℕ) → 2 ≤ k → k ≤ 8 → applies (refusalsOf s r f) k ≡ true → (0 < step s r f .answer) × (step s r f .answer ≤ k)
-  unfolding lowest
-  answer-lowest k a b e = rw step-exact (least-le (applies (refusalsOf s r f)) 7 2 k (omega arith) a (omega arith) e)
+  answer-lowest k a b e = rw step-exact (lowest-least (refusalsOf s r f) k a b e)

@@ -47,3 +47,7 @@ pub mod Never
 pub mod Demands
 pub mod Met
 pub mod Tree
+pub mod Lowest
+pub mod Grows
+pub mod Asks
+pub mod Renewed

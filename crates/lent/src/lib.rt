@@ -14,6 +14,9 @@ impl Node {
 
     pub const ROOT: u16 = 2;
 
+    // No node has this number: in the formatting list it stands for a marker.
+    pub const MARKER: u16 = 65535;
+
     // The largest number of nodes.
     pub const MOST: usize = 4096;
 

@@ -9,10 +9,10 @@ use native.Mathlib.Omega.{arith}
 use lib.Dec.{eqb}
 use lib.ListN.{length, getD, take, drop, set, replicate, length-append, length-take, length-drop, length-set, take-append-drop, List·getD-append}
 use lib.Seq.{getD-at, take-append-add, take-at, take-add, drop-drop, take-take, set-split, append-snoc, set-append-left, take-append-le, drop-cons, length-take-le, getD-take, take-suc, drop-at, set-at, getD-append-add, getD-drop, drop-append-add, take-set-lt, drop-set-lt}
-use borrow.Author.Tests.{eq-eqb, ne-eqb}
+use borrow.Author.Tests.{eq-eqb, ne-eqb, lt-ltb, le-ltb}
 use Rattle.places.specs.declared.Found.{Found}
 use Rattle.places.specs.declared.Found.the-variants.{At, Nothing}
-use Rattle.places.specs.Places.{Places, Whole, placesOf, at, pushed, without, within, swapped, cut, down, never, same, lastWith, placeOf, renamed, renamedAt, afterAt, exchanged, exchangedAt, left, leftAt}
+use Rattle.places.specs.Places.{Places, Whole, placesOf, at, pushed, without, within, swapped, cut, down, never, same, lastWith, placeOf, renamed, renamedAt, afterAt, exchanged, exchangedAt, left, leftAt, firstOf, withoutAny}
 
 one-more : (n : ℕ) → 0 < n → suc (n - 1) ≡ n
 one-more n h = omega arith
@@ -351,3 +351,19 @@ left-none p n e = rw e
 pub left-at : (p : Places) (n j : ℕ) → placeOf p n ≡ At j → without p j ≡ left p n
 unfolding left leftAt
 left-at p n j e = rw e
+
+pub first-at : (f g : Found) (i : ℕ) → f ≡ At i → At i ≡ firstOf f g
+unfolding firstOf
+first-at f g i e = rw e
+
+pub first-none : (f g : Found) → f ≡ Nothing → g ≡ firstOf f g
+unfolding firstOf
+first-none f g e = rw e
+
+pub without-in : (s : List ℕ) (d i : ℕ) → i < d → withoutAny (placesOf s d) i ≡ without (placesOf s d) i
+unfolding withoutAny placesOf
+without-in s d i lt = rw (lt-ltb i d lt)
+
+pub without-out : (s : List ℕ) (d i : ℕ) → d ≤ i → withoutAny (placesOf s d) i ≡ placesOf s d
+unfolding withoutAny placesOf
+without-out s d i le = rw (le-ltb i d le)

@@ -7,7 +7,7 @@ use mathlib.Core.Path.{_≡_}
 use mathlib.Core.Bool.{Bool, true, false, cond}
 use mathlib.Core.List.{List, [], _∷_, _++_}
 use lib.ListN.{length, getD, take, drop, set, replicate}
-use lib.Dec.{eqb}
+use lib.Dec.{eqb, ltb}
 use Rattle.places.specs.declared.Found.{Found}
 use Rattle.places.specs.declared.Found.the-variants.{At, Nothing}
 
@@ -32,6 +32,10 @@ at p i = getD (p .held) i 0
 unfoldable pub without : Places → ℕ → Places
 without p i = record { held = take i (p .held) ++ drop (i + 1) (p .held); free = 0 ∷ p .free; size = p .size - 1 }
 
+-- entry i leaves, if there is one
+unfoldable pub withoutAny : Places → ℕ → Places
+withoutAny p i = cond (ltb i (p .size)) (without p i) p
+
 -- n comes in as the last entry
 unfoldable pub pushed : Places → ℕ → Places
 pushed p n = record { held = p .held ++ n ∷ []; free = drop 1 (p .free); size = p .size + 1 }
@@ -52,6 +56,11 @@ cut p i = record { held = take i (p .held); free = replicate (length (p .held) -
 unfoldable pub down : (ℕ → Bool) → (ℕ → Bool) → List ℕ → ℕ → Found
 down hit stop xs zero = Nothing
 down hit stop xs (suc k) = cond (hit (getD xs k 0)) (At k) (cond (stop (getD xs k 0)) Nothing (down hit stop xs k))
+
+-- what was found first, or else the other
+unfoldable pub firstOf : Found → Found → Found
+firstOf (At i) other = At i
+firstOf Nothing other = other
 
 abbrev pub never : ℕ → Bool
 never x = false

@@ -2,7 +2,7 @@
 ghost use mathlib.Core.Path.{_≡_};
 ghost use Prim.Native.Nat.{_+_, _-_, _≤_, _<_};
 ghost use lib.ListN.{length};
-ghost use Rattle.places.specs.Places.{placesOf, pushed, without, within, swapped, cut, placeOf, exchanged, renamed, afterAt, left};
+ghost use Rattle.places.specs.Places.{placesOf, pushed, without, within, swapped, cut, placeOf, exchanged, renamed, afterAt, left, firstOf, withoutAny};
 
 pub enum Found {
     At(usize),
@@ -22,6 +22,16 @@ pub fn find(s: &[u16], d: usize, n: u16) -> Found
         }
     }
     Found::Nothing
+}
+
+// What was found first, or else the other.
+pub fn first_of(found: Found, other: Found) -> Found
+    ensures { λ r. ⌜ r ≡ firstOf found other ⌝ }
+{
+    match found {
+        Found::At(i) => Found::At(i),
+        Found::Nothing => other,
+    }
 }
 
 // n comes in as the last entry; the depth after it is one more.
@@ -46,6 +56,17 @@ pub fn remove_at(s: &mut [u16], d: usize, i: usize) -> usize
     }
     s[last] = 0;
     last
+}
+
+// Entry i leaves, if there is one.
+pub fn leave_at(s: &mut [u16], d: usize, i: usize) -> usize
+    requires { ⌜ d ≤ length (now s) ⌝ }
+    ensures { λ r. ⌜ (r ≤ d) × (d ≤ r + 1) × (placesOf (now (s .exit)) r ≡ withoutAny (placesOf (now (s .entry)) d) i) ⌝ }
+{
+    if i < d {
+        return remove_at(s, d, i);
+    }
+    d
 }
 
 // n comes in as entry i; the depth after it is one more.

@@ -15,7 +15,7 @@ fn main() {
     let mut pieces = [170u8; 32772];
     let mut pairs = [170u8; 16384];
     let mut out = [0u8; 524288];
-    let k = saved::serve::serve_whole(
+    let k = served::serve_whole(
         &buffer,
         n,
         &mut nodes,

@@ -14,7 +14,7 @@ use Rattle.names.specs.Tag as tag
 use Rattle.names.specs.Sets.{isIn, MathTextPoints, isHtmlPoint}
 use Rattle.places.specs.Places.{placesOf, at}
 use Rattle.places.proofs.Laws.{at-of}
-use Rattle.builder.proofs.SmallLaws.{size-of}
+use Rattle.small.proofs.Laws.{size-of}
 use Rattle.state.specs.declared.Context.{Context}
 use Rattle.queries.specs.declared.element.Expanded.{Expanded}
 use Rattle.queries.specs.Element.{standing}

@@ -9,7 +9,7 @@ use borrow.Author.Tests.{lt-ltb, le-ltb, le-leb, lt-leb}
 use Rattle.names.specs.Tag as tag
 use Rattle.places.specs.Places.{placesOf, at}
 use Rattle.places.proofs.Laws.{at-of}
-use Rattle.builder.proofs.SmallLaws.{size-of}
+use Rattle.small.proofs.Laws.{size-of}
 use Rattle.state.specs.declared.State.{State}
 use Rattle.state.specs.Fields.{coreOf}
 use Rattle.standard.specs.Html.{isHtml}

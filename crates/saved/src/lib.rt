@@ -2,4 +2,3 @@
 // For tests: these functions are proved to be safe and to end, and the tests compare what they write.
 pub mod load;
 pub mod save;
-pub mod serve;

@@ -195,3 +195,14 @@ pub fn put_state(
     let e = put_pieces(pieces, lent::least(st.counts.pieces, p), out, d);
     put_pairs(pairs, lent::least(st.counts.pairs, q), out, e)
 }
+
+// The bytes of a text.
+pub fn put_text(out: &mut [u8], at: usize, text: &[u8]) -> usize {
+    let mut p = at;
+    let mut k: usize = 0;
+    while k < text.len() {
+        p = put(out, p, text[k]);
+        k += 1;
+    }
+    p
+}

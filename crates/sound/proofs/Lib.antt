@@ -1,3 +1,4 @@
 pub mod Exact
 pub mod Range
 pub mod Reading
+pub mod Rules

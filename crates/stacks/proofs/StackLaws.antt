@@ -25,7 +25,7 @@ use Rattle.state.specs.Full.{Full, Result, full, result, done, withStack}
 use Rattle.standard.specs.Html.{isHtml, current}
 use Rattle.standard.specs.Small.{cleared}
 use Rattle.standard.specs.Stack.{isOf, named, isCell, inScope, isFound, shorter, whileTop, poppedWhile, poppedUntil, isImplied, impliedEnds, impliedSet, badImplied, implied, withoutP, closedP, withoutCell, closedCell, badEndTag, endedAt, endTag, ended}
-use Rattle.builder.proofs.SmallLaws.{size-of, stack-put}
+use Rattle.small.proofs.Laws.{size-of, stack-put}
 use Rattle.stacks.specs.declared.walk.Category.{Category}
 use Rattle.stacks.specs.declared.walk.Wanted.{Wanted}
 use Rattle.stacks.specs.declared.walk.Wanted.the-variants.{Node, Html, Cell}

@@ -11,7 +11,6 @@ ghost use Rattle.standard.specs.Stack.{badEndTag, closedP, closedCell, endTag, 
 use crate::walk;
 use crate::walk::Category;
 use crate::walk::Wanted;
-use builder::small;
 use names::tag;
 use places::Found;
 use state::Core;

@@ -23,7 +23,7 @@ use Rattle.standard.specs.declared.Place.the-variants.{End}
 unfoldable pub usualPlace : Full → Place
 usualPlace f = appropriatePlace (f .nodes .mem) (f .stack) (f .flags .foster) (current (f .stack))
 
--- ---- 1: element. Flags: 1 push, 2 mark
+-- ---- 1: element, "insert a foreign element", for HTML elements too. Flags: 1 push, 2 mark
 
 abbrev pub pushes : ℕ → Bool
 pushes flags = eqb (flags % 2) 1
@@ -48,7 +48,7 @@ badPairs s from count = ltb 16 count || not (fine [] (pairsIn s from count))
 unfoldable pub newTag : Full → ℕ → ℕ → ℕ → ℕ → Tag
 newTag f ns name flags count = record { space = ns; name = name; mark = flags / 2; start = f .pairs .used; count = count }
 
--- it is made, stored and put at its place
+-- Steps 1 to 3: it is made, its attributes are stored, and it is inserted at the appropriate place.
 unfoldable pub elementIn : Full → Tag → List (ℕ × ℕ) → Full
 elementIn f t ps =
     withPairs
@@ -56,6 +56,7 @@ elementIn f t ps =
     (stored (f .pairs .mem) (f .pairs .used) ps)
     (f .pairs .used + t .count)
 
+-- Step 4: it is pushed onto the stack of open elements, where the call asks for it.
 unfoldable pub pushedIf : Bool → Full → ℕ → Full
 pushedIf true f n = withStack f (pushed (f .stack) n)
 pushedIf false f n = f
@@ -76,8 +77,9 @@ inserted-element s f ns name flags from count =
     cond (badTag ns name flags || badPairs s from count) (refused 2 f)
     (elementRoom f (newTag f ns name flags count) (pairsIn s from count) (pushes flags))
 
--- ---- 2: text, "insert a character": joined to a text node directly before the place, else a new node
+-- ---- 2: text, "insert a character". Step 3, a place in the document itself, is no sound state's: the root is always open.
 
+-- Step 4, with a text node immediately before the place: the text is added to it.
 unfoldable pub joinedText : Full → ℕ → ℕ → Result
 joinedText f n number =
     cond (eqb (freePieces (f .pieces .mem) (f .pieces .used)) 0) (refused 7 f)
@@ -87,6 +89,7 @@ joinedText f n number =
     (pieceAfter (f .pieces .mem) (field (f .nodes .mem) n END) (f .pieces .used + 1) number)
     (f .pieces .used + 1)))
 
+-- Step 4, without one: a new text node is inserted there.
 unfoldable pub newText : Full → Place → ℕ → Result
 newText f p number =
     cond (eqb (freeNodes (f .nodes .mem) (f .nodes .used)) 0) (refused 4 f)
@@ -97,19 +100,23 @@ newText f p number =
     (piece (f .pieces .mem) (f .pieces .used + 1) number)
     (f .pieces .used + 1))))
 
+-- Step 4
 unfoldable pub textAt : Full → Place → ℕ → ℕ → Result
 textAt f p before number = cond (eqb before 0) (newText f p number) (joinedText f before number)
 
+-- Step 2: the appropriate place.
 unfoldable pub inserted-text : Full → ℕ → Result
 inserted-text f number = textAt f (usualPlace f) (textBefore (f .nodes .mem) (usualPlace f)) number
 
--- ---- 3: comment. Place 0 is the usual one, 1 the end of the root, 2 the end of the document
+-- ---- 3: "insert a comment"
 
+-- Step 2: place 0 is the appropriate one, 1 the end of the root, 2 the end of the document.
 unfoldable pub commentPlace : Full → ℕ → Place
 commentPlace f zero = usualPlace f
 commentPlace f (suc zero) = End (node 2)
 commentPlace f (suc (suc n)) = End (node 1)
 
+-- Steps 3 and 4: a comment is made and inserted there.
 unfoldable pub commentAt : Full → Place → ℕ → Result
 commentAt f p number =
     cond (eqb (freeNodes (f .nodes .mem) (f .nodes .used)) 0) (refused 4 f)

@@ -83,8 +83,9 @@ implied f kind except =
     cond (badImplied kind except) (refused 2 f)
     (done (withStack f (impliedEnds (impliedSet kind) except (f .nodes .mem) (f .stack))))
 
--- ---- 11: "close a p element"; 3 if no HTML p is in button scope
+-- ---- 11: "close a p element" (13.2.6.4.7); 3 if no HTML p is in button scope
 
+-- steps 1 and 3
 unfoldable pub withoutP : List ℕ → Places → Places
 withoutP m s = poppedUntil (named m tag.p) (impliedEnds Cursory tag.p m s)
 

@@ -2,12 +2,14 @@
 -- Assumes nothing.
 use Prim.Native.Nat.{ℕ}
 use mathlib.Core.List.{List}
+use lib.ListN.{replicate}
 use Rattle.state.specs.declared.Core.{Core}
 use Rattle.state.specs.declared.Counts.{Counts}
 use Rattle.state.specs.declared.Flags.{Flags}
 use Rattle.state.specs.declared.Stack.{Stack}
 use Rattle.state.specs.declared.State.{State}
 use Rattle.state.specs.declared.Context.{Context}
+use Rattle.state.specs.declared.Context.the-variants.{None}
 
 unfoldable pub setDepth : Core → ℕ → Core
 setDepth c n = record { depth = n; counts = c .counts; flags = c .flags }
@@ -50,3 +52,13 @@ coreOf st = record { depth = st .stack .depth; counts = st .counts; flags = st .
 
 unfoldable pub stateOf : List ℕ → Core → Context → State
 stateOf h c x = record { stack = record { handles = h; depth = c .depth }; counts = c .counts; flags = c .flags; context = x }
+
+-- nothing is open and nothing used
+unfoldable pub emptyState : State
+emptyState =
+    record {
+      stack = record { handles = replicate 512 0; depth = 0 };
+      counts = record { nodes = 0; pieces = 0; pairs = 0; list = 0; modes = 0 };
+      flags = record { foster = 0; head = 0 };
+      context = None;
+    }

@@ -1,7 +1,7 @@
 // The record: what is small of the state, by value. The lent memory stands beside it.
 ghost use mathlib.Core.Path.{_≡_};
 ghost use lib.ListN.{replicate};
-ghost use Rattle.state.specs.Fields.{setDepth, setNodes, setPieces, setPairs, setList, setModes, setFoster, setHead, coreOf, stateOf};
+ghost use Rattle.state.specs.Fields.{setDepth, setNodes, setPieces, setPairs, setList, setModes, setFoster, setHead, coreOf, stateOf, emptyState};
 
 // The stack of open elements: places for node numbers, of which the first `depth` are in use.
 pub struct Stack {
@@ -130,6 +130,24 @@ impl Core {
 }
 
 impl State {
+    // Nothing is open and nothing used: a record to begin from.
+    pub fn empty() -> State
+        ensures { λ r. ⌜ r ≡ emptyState ⌝ }
+    {
+        State {
+            stack: Stack::empty(),
+            counts: Counts {
+                nodes: 0,
+                pieces: 0,
+                pairs: 0,
+                list: 0,
+                modes: 0,
+            },
+            flags: Flags { foster: 0, head: 0 },
+            context: Context::None,
+        }
+    }
+
     pub fn core(self) -> Core
         ensures { λ r. ⌜ r ≡ coreOf self ⌝ }
     {

@@ -3,29 +3,7 @@
 use calls::begin;
 use calls::run;
 use state::Context;
-use state::Counts;
-use state::Flags;
-use state::Stack;
 use state::State;
-
-// Begin does not look at the state before it.
-fn before() -> State {
-    let stack = Stack::empty();
-    let counts = Counts {
-        nodes: 0,
-        pieces: 0,
-        pairs: 0,
-        list: 0,
-        modes: 0,
-    };
-    let flags = Flags { foster: 0, head: 0 };
-    State {
-        stack: stack,
-        counts: counts,
-        flags: flags,
-        context: Context::None,
-    }
-}
 
 // A begin and a run; how many records were done.
 #[no_mangle]
@@ -37,7 +15,7 @@ pub extern "C" fn timed_run(
     pairs: &mut [u8],
     input: &[u8],
 ) -> usize {
-    let st = before();
+    let st = State::empty();
     let b = begin::begin(st, nodes, modes, Context::None);
     let begun = b.state;
     let r = run::run(begun, nodes, list, modes, pieces, pairs, input);

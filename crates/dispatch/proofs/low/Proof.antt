@@ -8,8 +8,8 @@ use Rattle.dispatch.proofs.low.Reads as reads
 use Rattle.dispatch.proofs.low.Lts as lts
 use Rattle.builder.proofs.insertion.comment.Reads as comment-reads
 use Rattle.builder.proofs.insertion.text.Reads as text-reads
-use Rattle.builder.proofs.small.clear.Reads as clear-reads
-use Rattle.builder.proofs.small.marker.Reads as marker-reads
+use Rattle.small.proofs.clear.Reads as clear-reads
+use Rattle.small.proofs.marker.Reads as marker-reads
 use Rattle.dispatch.proofs.create.Reads as create-reads
 use Rattle.dispatch.proofs.element.Reads as element-reads
 use Rattle.dispatch.proofs.middle.Reads as middle-reads

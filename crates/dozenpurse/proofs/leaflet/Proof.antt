@@ -12,8 +12,8 @@ part-requires c κs = search needs
 slice-aggregate-input : tie.Need-slice-aggregate-input
 slice-aggregate-input c = sym (length-take-le _ _ (search needs))
 
-before-requires : tie.Need-before-requires
-before-requires c κs = search needs
+empty-requires : tie.Need-empty-requires
+empty-requires c κs = search needs
 
 begin-requires : tie.Need-begin-requires
 begin-requires c κs = search needs
@@ -48,7 +48,7 @@ leaflet-spec =
     (tie.spec
     part-requires
     slice-aggregate-input
-    before-requires
+    empty-requires
     begin-requires
     run-requires
     cut-requires

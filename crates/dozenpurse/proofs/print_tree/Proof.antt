@@ -8,10 +8,10 @@ use Rattle.dozenpurse.proofs.print_tree.Statement.{statement}
 use Rattle.dozenpurse.proofs.print_tree.Tie as tie
 
 abbrev Inv-loop : tie.InvT-loop
-Inv-loop nodes pieces pairs line₀ c₀ k₀ line c k = (k ≤ 8394752) × (length line ≡ length line₀)
+Inv-loop nodes pieces pairs line₀ c₀ k₀ line c k = (k ≤ 34816) × (length line ≡ length line₀)
 
 abbrev μ-loop : tie.MeasureT-loop
-μ-loop nodes pieces pairs line₀ c₀ k₀ line c k = 8394752 - k
+μ-loop nodes pieces pairs line₀ c₀ k₀ line c k = 34816 - k
 
 start-requires : tie.Need-start-requires Inv-loop μ-loop
 start-requires c κs = search needs

@@ -20,8 +20,8 @@ find-requires c κs = search needs
 enum-told : tie.Need-enum-told
 enum-told c = search needs
 
-remove-at-requires : tie.Need-remove-at-requires
-remove-at-requires c κs = search needs
+leave-at-requires : tie.Need-leave-at-requires
+leave-at-requires c κs = search needs
 
 with-depth-requires : tie.Need-with-depth-requires
 with-depth-requires c κs = search needs
@@ -51,7 +51,7 @@ same-length-4 : tie.Need-same-length-4
 same-length-4 c = search needs
 
 returns-2 : tie.Need-returns-2
-returns-2 c = (omega (arith, (c .before .before .before .remove-at) .ensures .0, laws.counts-depth _ _ ((c .with-depth) .ensures)), λ m p q x. laws.turn-none _ _ _ m p q x ((c .before .before .before .before .before .before .before .before .before .before .before .before .before .before .args) .w .core) _ _ _ _ ((c .before .before .before .before .before .before .before .before .before .before .before .before .before .before .pre) .0 .0) _ ((c .before .before .before .before .before .before .before .find) .ensures) ((c .before .before .before .before .before .enum-told) .given .1) (laws.stack-left _ _ _ m p q x ((c .before .before .before .before .before .before .before .before .before .before .before .before .before .before .args) .w .core) _ _ _ ((c .before .before .before .remove-at) .ensures .1) ((c .with-depth) .ensures)))
+returns-2 c = (omega (arith, (c .before .before .before .leave-at) .ensures .0, (c .before .before .before .leave-at) .ensures .1, laws.counts-depth _ _ ((c .with-depth) .ensures)), λ m p q x. laws.turn-none _ _ _ m p q x ((c .before .before .before .before .before .before .before .before .before .before .before .before .before .before .args) .w .core) _ _ _ _ ((c .before .before .before .before .before .before .before .before .before .before .before .before .before .before .pre) .0 .0) _ ((c .before .before .before .before .before .before .before .find) .ensures) ((c .before .before .before .before .before .enum-told) .given .1) (laws.stack-left _ _ _ m p q x ((c .before .before .before .before .before .before .before .before .before .before .before .before .before .before .args) .w .core) _ _ _ ((c .before .before .before .before .before .before .before .before .before .before .before .before .before .before .pre) .0 .0) ((c .before .before .before .leave-at) .ensures .2) ((c .with-depth) .ensures)))
 
 same-length-5 : tie.Need-same-length-5
 same-length-5 c = search needs
@@ -73,7 +73,7 @@ turn-spec =
     slice-read-find
     find-requires
     enum-told
-    remove-at-requires
+    leave-at-requires
     with-depth-requires
     enum-known-j
     leave-both-requires

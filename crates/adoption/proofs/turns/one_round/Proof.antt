@@ -32,7 +32,7 @@ same-length-3 : tie.Need-same-length-3
 same-length-3 c = search needs
 
 returns : tie.Need-returns
-returns c = λ m p q x. laws.entry-none _ _ _ m p q x _ _ ((c .before .before .before .before .before .before .before .entry) .ensures) ((c .before .before .before .before .before .enum-told) .given .1) ((c .before .before .end-tag) .ensures _ m p q x)
+returns c = λ m p q x. laws.entry-none _ _ _ m p q x _ _ _ ((c .before .before .before .before .before .before .before .entry) .ensures) ((c .before .before .before .before .before .enum-told) .given .1) ((c .before .before .end-tag) .ensures _ m p q x)
 
 same-length-4 : tie.Need-same-length-4
 same-length-4 c = search needs
@@ -44,7 +44,7 @@ same-length-6 : tie.Need-same-length-6
 same-length-6 c = search needs
 
 returns-2 : tie.Need-returns-2
-returns-2 c = λ m p q x. laws.entry-at _ _ _ m p q x _ _ ((c .before .before .before .before .before .before .before .before .before .before .before .before .before .entry) .ensures) ((c .before .before .before .before .before .before .before .before .before .before .before .j) .given .1) ((c .before .before .before .before .before .before .with-entry) .ensures m p q x)
+returns-2 c = λ m p q x. laws.entry-at _ _ _ m p q x _ _ _ ((c .before .before .before .before .before .before .before .before .before .before .before .before .before .entry) .ensures) ((c .before .before .before .before .before .before .before .before .before .before .before .j) .given .1) ((c .before .before .before .before .before .before .with-entry) .ensures m p q x)
 
 pub one-round-spec : {M : Type 1} → statement M
 one-round-spec =

@@ -19,19 +19,19 @@ comment-at-requires-3 : tie.Need-comment-at-requires-3
 comment-at-requires-3 c κs = search needs
 
 same-length : tie.Need-same-length
-same-length c = search needs
+same-length c = c .before .nodes .given
 
 returns : tie.Need-returns
 returns c = λ l m w q x. laws.comment-usual _ _ l m w q x _ _ ((c .before .before .before .before .before .before .match) .keys1) ((c .before .before .before .before .usual-place) .ensures l m w q x) ((c .before .before .comment-at) .ensures _ l m w q x)
 
 same-length-2 : tie.Need-same-length-2
-same-length-2 c = search needs
+same-length-2 c = c .before .nodes2 .given
 
 returns-2 : tie.Need-returns-2
 returns-2 c = λ l m w q x. laws.comment-root _ _ l m w q x _ _ ((c .before .before .before .before .match) .keys2) refl ((c .before .before .comment-at2) .ensures _ l m w q x)
 
 same-length-3 : tie.Need-same-length-3
-same-length-3 c = search needs
+same-length-3 c = c .before .nodes3 .given
 
 returns-3 : tie.Need-returns-3
 returns-3 c = λ l m w q x. laws.comment-document _ _ l m w q x _ _ ((c .before .before .before .before .match) .keys3) refl ((c .before .before .comment-at3) .ensures _ l m w q x)

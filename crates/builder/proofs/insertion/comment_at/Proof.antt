@@ -2,6 +2,7 @@
 -- Assumes nothing.
 use native.Mathlib.Omega.{arith}
 use Rattle.builder.proofs.InsertionLaws as laws
+use mathlib.Core.Path.{refl, _∙_}
 use borrow.Author.Needs.{needs}
 use Rattle.builder.proofs.insertion.comment_at.Statement.{statement}
 use Rattle.builder.proofs.insertion.comment_at.Tie as tie
@@ -10,7 +11,7 @@ free-nodes-requires : tie.Need-free-nodes-requires
 free-nodes-requires c κs = search needs
 
 same-length : tie.Need-same-length
-same-length c = search needs
+same-length c = refl
 
 returns : tie.Need-returns
 returns c = λ s l m w q x. laws.comment-full s _ l m w q x _ _ _ ((c .before .free-nodes) .ensures) ((c .if1) .taken)
@@ -31,7 +32,7 @@ with-nodes-requires : tie.Need-with-nodes-requires
 with-nodes-requires c κs = search needs
 
 same-length-2 : tie.Need-same-length-2
-same-length-2 c = search needs
+same-length-2 c = c .before .before .nodes2 .given ∙ c .before .before .before .before .before .before .nodes .given
 
 returns-2 : tie.Need-returns-2
 returns-2 c = λ s l m w q x. laws.comment-done s _ l m w q x _ _ _ ((c .before .before .before .before .before .before .before .before .before .before .before .free-nodes) .ensures) ((c .before .before .before .before .before .before .before .before .before .before .if1) .left) ((c .before .before .before .before .before .before .before .before .before .next) .ensures) ((c .before .before .before .before .before .before .before .make-comment) .ensures) ((c .before .before .before .attach) .ensures) ((c .with-nodes) .ensures)

@@ -4,6 +4,7 @@ use Rattle.standard.specs.Insertion.{newTag}
 use mathlib.Core.Path.{_∙_, sym}
 use native.Mathlib.Omega.{arith}
 use Rattle.builder.proofs.ElementLaws as laws
+use Rattle.state.specs.Full.{full}
 use borrow.Author.Needs.{needs}
 use Rattle.builder.proofs.insertion.element.Statement.{statement}
 use Rattle.builder.proofs.insertion.element.Tie as tie
@@ -12,13 +13,17 @@ bad-tag-requires : tie.Need-bad-tag-requires
 bad-tag-requires c κs = search needs
 
 returns : tie.Need-returns
-returns c = λ l m w x. laws.element-bad-tag _ _ _ _ _ _ _ ((c .before .bad-tag) .ensures) ((c .if1) .taken)
+returns c =
+    let a = c .before .before .before .before .before .before .args in
+    λ l m w x. laws.element-bad-tag (a .input .now) (full (a .h .now) (a .core) x (a .nodes .now) l m w (a .pairs .now)) (a .ns) (a .name) (a .flags) (a .from) (a .count) (c .before .bad-tag .ensures) (c .if1 .taken)
 
 bad-pairs-requires : tie.Need-bad-pairs-requires
 bad-pairs-requires c κs = search needs
 
 returns-2 : tie.Need-returns-2
-returns-2 c = λ l m w x. laws.element-bad-pairs _ _ _ _ _ _ _ ((c .before .before .before .bad-tag) .ensures) ((c .before .before .if1) .left) ((c .before .bad-pairs) .ensures) ((c .if2) .taken)
+returns-2 c =
+    let a = c .before .before .before .before .before .before .before .before .args in
+    λ l m w x. laws.element-bad-pairs (a .input .now) (full (a .h .now) (a .core) x (a .nodes .now) l m w (a .pairs .now)) (a .ns) (a .name) (a .flags) (a .from) (a .count) (c .before .before .before .bad-tag .ensures) (c .before .before .if1 .left) (c .before .bad-pairs .ensures) (c .if2 .taken)
 
 cast-t15 : tie.Need-cast-t15
 cast-t15 c = search needs
@@ -27,17 +32,19 @@ element-room-requires : tie.Need-element-room-requires
 element-room-requires c κs = ((c .before .before .before .before .before .before .before .before .before .before .before .before .pre) .0, (laws.pairs-count _ _ _ ((c .before .before .before .before .before .bad-pairs) .ensures) ((c .before .before .before .before .if2) .left), (c .before .before .before .before .before .before .before .before .before .before .before .before .pre) .1))
 
 same-length : tie.Need-same-length
-same-length c = search needs
+same-length c = c .before .before .before .before .before .h .given
 
 same-length-2 : tie.Need-same-length-2
-same-length-2 c = search needs
+same-length-2 c = c .before .before .before .nodes .given
 
 same-length-3 : tie.Need-same-length-3
-same-length-3 c = search needs
+same-length-3 c = c .before .pairs .given
 
 returns-3 : tie.Need-returns-3
 unfolding newTag
-returns-3 c = λ l m w x. laws.element-good _ _ _ _ _ _ _ ((c .before .before .before .before .before .before .before .before .before .before .before .before .before .before .bad-tag) .ensures) ((c .before .before .before .before .before .before .before .before .before .before .before .before .before .if1) .left) ((c .before .before .before .before .before .before .before .before .before .before .before .before .bad-pairs) .ensures) ((c .before .before .before .before .before .before .before .before .before .before .before .if2) .left) ((c .before .before .before .before .before .before .element-room) .ensures l m w x)
+returns-3 c =
+    let a = c .before .before .before .before .before .before .before .before .before .before .before .before .before .before .before .before .before .before .before .args in
+    λ l m w x. laws.element-good (a .input .now) (full (a .h .now) (a .core) x (a .nodes .now) l m w (a .pairs .now)) (a .ns) (a .name) (a .flags) (a .from) (a .count) (c .before .before .before .before .before .before .before .before .before .before .before .before .before .before .bad-tag .ensures) (c .before .before .before .before .before .before .before .before .before .before .before .before .before .if1 .left) (c .before .before .before .before .before .before .before .before .before .before .before .before .bad-pairs .ensures) (c .before .before .before .before .before .before .before .before .before .before .before .if2 .left) (c .before .before .before .before .before .before .element-room .ensures l m w x)
 
 pub element-spec : {M : Type 1} → statement M
 element-spec =

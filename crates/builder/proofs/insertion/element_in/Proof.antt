@@ -3,6 +3,7 @@
 use mathlib.Core.Path.{_∙_}
 use native.Mathlib.Omega.{arith}
 use Rattle.builder.proofs.ElementLaws as laws
+use Rattle.standard.specs.Pairs.{pairsIn}
 use borrow.Author.Needs.{needs}
 use Rattle.builder.proofs.insertion.element_in.Statement.{statement}
 use Rattle.builder.proofs.insertion.element_in.Tie as tie
@@ -44,10 +45,12 @@ same-length : tie.Need-same-length
 same-length c = (c .before .before .before .before .before .before .before .before .before .before .attach) .kept .0 ∙ (c .before .before .before .before .before .before .before .before .before .before .before .before .before .before .make-element) .kept .0
 
 same-length-2 : tie.Need-same-length-2
-same-length-2 c = search needs
+same-length-2 c = c .before .before .before .before .pairs .given
 
 returns : tie.Need-returns
-returns c = λ l m w x. laws.element-made _ _ l m w _ x _ _ _ ((c .before .before .before .before .before .before .before .before .before .before .before .before .before .before .before .before .before .before .before .before .before .before .before .pre) .1 .0) ((c .before .before .before .before .before .before .before .before .before .before .before .before .before .before .before .before .before .usual-place) .ensures l m w _ x) ((c .before .before .before .before .before .before .before .before .before .before .before .before .before .before .before .before .next) .ensures) ((c .before .before .before .before .before .before .before .before .before .before .before .before .before .before .make-element) .ensures) ((c .before .before .before .before .before .before .before .before .before .before .attach) .ensures) ((c .before .before .before .before .before .store) .ensures) ((c .before .before .nodes3) .ensures) ((c .before .with-nodes) .ensures) ((c .with-pairs) .ensures)
+returns c =
+    let a = c .before .before .before .before .before .before .before .before .before .before .before .before .before .before .before .before .before .before .before .before .before .before .before .args in
+    λ l m w x. laws.element-made (a .h .now) (a .nodes .now) l m w (a .pairs .now) x (a .core) (a .t) (pairsIn (a .input .now) (a .from) (a .t .count)) (c .before .before .before .before .before .before .before .before .before .before .before .before .before .before .before .before .before .before .before .before .before .before .before .pre .1 .0) (c .before .before .before .before .before .before .before .before .before .before .before .before .before .before .before .before .before .usual-place .ensures l m w (a .pairs .now) x) (c .before .before .before .before .before .before .before .before .before .before .before .before .before .before .before .before .next .ensures) (c .before .before .before .before .before .before .before .before .before .before .before .before .before .before .make-element .ensures) (c .before .before .before .before .before .before .before .before .before .before .attach .ensures) (c .before .before .before .before .before .store .ensures) (c .before .before .nodes3 .ensures) (c .before .with-nodes .ensures) (c .with-pairs .ensures)
 
 pub element-in-spec : {M : Type 1} → statement M
 element-in-spec =

@@ -2,6 +2,7 @@
 -- Assumes nothing.
 use native.Mathlib.Omega.{arith}
 use Rattle.builder.proofs.InsertionLaws as laws
+use mathlib.Core.Path.{refl}
 use borrow.Author.Needs.{needs}
 use Rattle.builder.proofs.insertion.join_text.Statement.{statement}
 use Rattle.builder.proofs.insertion.join_text.Tie as tie
@@ -10,7 +11,7 @@ free-pieces-requires : tie.Need-free-pieces-requires
 free-pieces-requires c κs = search needs
 
 same-length : tie.Need-same-length
-same-length c = search needs
+same-length c = refl
 
 returns : tie.Need-returns
 returns c = λ s l m q x. laws.join-full s _ l m _ q x _ _ _ ((c .before .free-pieces) .ensures) ((c .if1) .taken)
@@ -28,10 +29,10 @@ with-pieces-requires : tie.Need-with-pieces-requires
 with-pieces-requires c κs = search needs
 
 same-length-2 : tie.Need-same-length-2
-same-length-2 c = search needs
+same-length-2 c = c .before .before .before .before .nodes .given
 
 same-length-3 : tie.Need-same-length-3
-same-length-3 c = search needs
+same-length-3 c = c .before .before .pieces .given
 
 returns-2 : tie.Need-returns-2
 returns-2 c = λ s l m q x. laws.join-done s _ l m _ q x _ _ _ ((c .before .before .before .before .before .before .before .before .before .before .free-pieces) .ensures) ((c .before .before .before .before .before .before .before .before .before .if1) .left) ((c .before .before .before .before .before .before .before .before .next) .ensures) ((c .before .before .before .before .before .add-piece) .ensures .0) ((c .before .before .before .before .before .add-piece) .ensures .1) ((c .with-pieces) .ensures)

@@ -2,6 +2,7 @@
 -- Assumes nothing.
 use native.Mathlib.Omega.{arith}
 use Rattle.builder.proofs.InsertionLaws as laws
+use mathlib.Core.Path.{refl, _∙_}
 use borrow.Author.Needs.{needs}
 use Rattle.builder.proofs.insertion.new_text.Statement.{statement}
 use Rattle.builder.proofs.insertion.new_text.Tie as tie
@@ -10,22 +11,26 @@ free-nodes-requires : tie.Need-free-nodes-requires
 free-nodes-requires c κs = search needs
 
 same-length : tie.Need-same-length
-same-length c = search needs
+same-length c = refl
 
 returns : tie.Need-returns
-returns c = λ s l m q x. laws.new-full-nodes s _ l m _ q x _ _ _ ((c .before .free-nodes) .ensures) ((c .if1) .taken)
+returns c =
+    let a = c .before .before .before .before .before .args in
+    λ s l m q x. laws.new-full-nodes s (a .nodes .now) l m (a .pieces .now) q x (a .core) (a .p) (a .number) (c .before .free-nodes .ensures) (c .if1 .taken)
 
 free-pieces-requires : tie.Need-free-pieces-requires
 free-pieces-requires c κs = search needs
 
 same-length-2 : tie.Need-same-length-2
-same-length-2 c = search needs
+same-length-2 c = refl
 
 same-length-3 : tie.Need-same-length-3
-same-length-3 c = search needs
+same-length-3 c = refl
 
 returns-2 : tie.Need-returns-2
-returns-2 c = λ s l m q x. laws.new-full-pieces s _ l m _ q x _ _ _ ((c .before .before .before .before .free-nodes) .ensures) ((c .before .before .before .if1) .left) ((c .before .free-pieces) .ensures) ((c .if2) .taken)
+returns-2 c =
+    let a = c .before .before .before .before .before .before .before .before .args in
+    λ s l m q x. laws.new-full-pieces s (a .nodes .now) l m (a .pieces .now) q x (a .core) (a .p) (a .number) (c .before .before .before .before .free-nodes .ensures) (c .before .before .before .if1 .left) (c .before .free-pieces .ensures) (c .if2 .taken)
 
 next-requires : tie.Need-next-requires
 next-requires c κs = search needs
@@ -52,13 +57,15 @@ with-pieces-requires : tie.Need-with-pieces-requires
 with-pieces-requires c κs = search needs
 
 same-length-4 : tie.Need-same-length-4
-same-length-4 c = search needs
+same-length-4 c = c .before .before .before .nodes2 .given ∙ c .before .before .before .before .before .before .before .before .before .nodes .given
 
 same-length-5 : tie.Need-same-length-5
-same-length-5 c = search needs
+same-length-5 c = c .before .before .before .before .before .before .before .pieces .given
 
 returns-3 : tie.Need-returns-3
-returns-3 c = λ s l m q x. laws.new-done s _ l m _ q x _ _ _ ((c .before .before .before .before .before .before .before .before .before .before .before .before .before .before .before .before .before .before .before .free-nodes) .ensures) ((c .before .before .before .before .before .before .before .before .before .before .before .before .before .before .before .before .before .before .if1) .left) ((c .before .before .before .before .before .before .before .before .before .before .before .before .before .before .before .before .free-pieces) .ensures) ((c .before .before .before .before .before .before .before .before .before .before .before .before .before .before .before .if2) .left) ((c .before .before .before .before .before .before .before .before .before .before .before .before .before .before .next) .ensures) ((c .before .before .before .before .before .before .before .before .before .before .before .before .before .next2) .ensures) ((c .before .before .before .before .before .before .before .before .before .before .make-text) .ensures .0) ((c .before .before .before .before .before .before .before .before .before .before .make-text) .ensures .1) ((c .before .before .before .before .attach) .ensures) ((c .before .with-nodes) .ensures) ((c .with-pieces) .ensures)
+returns-3 c =
+    let a = c .before .before .before .before .before .before .before .before .before .before .before .before .before .before .before .before .before .before .before .before .before .before .before .args in
+    λ s l m q x. laws.new-done s (a .nodes .now) l m (a .pieces .now) q x (a .core) (a .p) (a .number) (c .before .before .before .before .before .before .before .before .before .before .before .before .before .before .before .before .before .before .before .free-nodes .ensures) (c .before .before .before .before .before .before .before .before .before .before .before .before .before .before .before .before .before .before .if1 .left) (c .before .before .before .before .before .before .before .before .before .before .before .before .before .before .before .before .free-pieces .ensures) (c .before .before .before .before .before .before .before .before .before .before .before .before .before .before .before .if2 .left) (c .before .before .before .before .before .before .before .before .before .before .before .before .before .before .next .ensures) (c .before .before .before .before .before .before .before .before .before .before .before .before .before .next2 .ensures) (c .before .before .before .before .before .before .before .before .before .before .make-text .ensures .0) (c .before .before .before .before .before .before .before .before .before .before .make-text .ensures .1) (c .before .before .before .before .attach .ensures) (c .before .with-nodes .ensures) (c .with-pieces .ensures)
 
 pub new-text-spec : {M : Type 1} → statement M
 new-text-spec =

@@ -12,7 +12,7 @@ with-depth-requires : tie.Need-with-depth-requires
 with-depth-requires c κs = search needs
 
 same-length : tie.Need-same-length
-same-length c = search needs
+same-length c = c .before .before .h .given
 
 returns : tie.Need-returns
 returns c = λ n l m w q x. laws.push-yes _ n l m w q x _ _ _ _ ((c .before .before .before .before .before .if1) .taken) ((c .before .before .before .push) .ensures .1) ((c .with-depth) .ensures)

@@ -2,7 +2,7 @@
 -- Assumes nothing.
 use borrow.Author.Needs.{needs}
 use Prim.Native.Nat.{ℕ, _≤_, _-_, _+_}
-use mathlib.Core.Path.{_≡_, refl, sym, _∙_, ap}
+use mathlib.Core.Path.{_≡_, refl, sym, ap, _∙_}
 use native.Mathlib.Omega.{arith}
 use lib.ListN.{length}
 use Rattle.arena.specs.Make.{pair}
@@ -42,7 +42,7 @@ loop-again : tie.Need-loop-again Inv-loop μ-loop
 loop-again c = (omega arith, search needs, stored-turn _ _ _ _ _ _ (omega arith) ((c .before .before .before .before .pair-at) .ensures .0) ((c .before .before .before .before .pair-at) .ensures .1) ((c .before .before .before .before .pair-at) .ensures .2) ((c .before .before .make-pair) .ensures) ((c .before .before .before .before .before .before .loop) .inv .2))
 
 same-length : tie.Need-same-length Inv-loop μ-loop
-same-length c = search needs
+same-length c = c .before .loop .inv .1
 
 returns : tie.Need-returns Inv-loop μ-loop
 returns c = stored-end _ _ _ _ _ _ (omega arith) ((c .before .loop) .inv .2)

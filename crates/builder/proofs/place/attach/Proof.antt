@@ -18,13 +18,13 @@ insert-before-requires : tie.Need-insert-before-requires
 insert-before-requires c κs = search needs
 
 same-length : tie.Need-same-length
-same-length c = search needs
+same-length c = c .before .nodes .given
 
 returns : tie.Need-returns
 returns c = laws.attached-end _ _ ((c .before .before .before .before .before .p) .given .1) ((c .before .before .append) .ensures)
 
 same-length-2 : tie.Need-same-length-2
-same-length-2 c = search needs
+same-length-2 c = c .before .nodes2 .given
 
 returns-2 : tie.Need-returns-2
 returns-2 c = laws.attached-before _ _ ((c .before .before .before .before .before .p2) .given .1) ((c .before .before .insert-before) .ensures)

@@ -16,55 +16,72 @@ surplus-requires : tie.Need-surplus-requires
 surplus-requires c κs = search needs
 
 is-full-requires : tie.Need-is-full-requires
-is-full-requires c κs = ((c .before .before .before .before .before .before .before .before .before .before .before .pre) .1 .0, λ i e. surplus-lt _ _ _ i ((c .before .before .before .before .before .before .before .before .before .before .before .pre) .1 .0) ((c .before .surplus) .ensures) e)
+is-full-requires c κs =
+    let r = c .before .before .before .before .before .before .before .before .before .before .before .pre .1 .0 in
+    (r, λ i e. surplus-lt _ _ _ i r (c .before .surplus .ensures) e)
 
 same-length : tie.Need-same-length
-same-length c = search needs
+same-length c = refl
 
 same-length-2 : tie.Need-same-length-2
-same-length-2 c = search needs
+same-length-2 c = refl
 
 same-length-3 : tie.Need-same-length-3
-same-length-3 c = search needs
+same-length-3 c = refl
 
 returns : tie.Need-returns
-returns c = λ m w x. laws.call-list _ _ _ m w _ x _ ((c .before .before .before .before .before .before .before .before .before .before .before .before .before .args) .input .now) ((c .before .before .before .before .before .before .before .before .before .before .before .before .before .args) .t .name) ((c .before .before .before .before .before .before .before .before .before .before .before .before .before .args) .t .from) ((c .before .before .before .before .before .before .before .before .before .before .before .before .before .args) .t .count) ((c .before .before .before .before .before .before .before .before .before .before .before .before .before .pre) .1 .2) refl ((c .before .before .before .before .before .before .before .before .before .before .before .before .before .pre) .1 .3) ((c .before .before .before .before .before .before .before .before .before .before .before .before .before .pre) .0 .1) ((c .before .before .before .surplus) .ensures) ((c .before .is-full) .ensures) ((c .if1) .taken)
+returns c =
+    let a = c .before .before .before .before .before .before .before .before .before .before .before .before .before .args in
+    let r = c .before .before .before .before .before .before .before .before .before .before .before .before .before .pre in
+    λ m w x. laws.call-list (a .h .now) (a .nodes .now) (a .list .now) m w (a .pairs .now) x (a .core) (a .input .now) (a .t .name) (a .t .from) (a .t .count) (r .1 .2) refl (r .1 .3) (r .0 .1) (c .before .before .before .surplus .ensures) (c .before .is-full .ensures) (c .if1 .taken)
 
 insert-requires : tie.Need-insert-requires
 insert-requires c κs = search needs
 
 same-length-4 : tie.Need-same-length-4
-same-length-4 c = search needs
+same-length-4 c = c .before .before .before .before .before .before .before .h .given
 
 same-length-5 : tie.Need-same-length-5
-same-length-5 c = search needs
+same-length-5 c = c .before .before .before .before .before .nodes .given
 
 same-length-6 : tie.Need-same-length-6
-same-length-6 c = search needs
+same-length-6 c = c .before .before .before .pairs .given
 
 same-length-7 : tie.Need-same-length-7
-same-length-7 c = search needs
+same-length-7 c = refl
 
 returns-2 : tie.Need-returns-2
-returns-2 c = λ m w x. laws.call-pairs _ _ _ m w _ x _ ((c .before .before .before .before .before .before .before .before .before .before .before .before .before .before .before .before .before .before .before .before .before .before .before .before .before .args) .input .now) ((c .before .before .before .before .before .before .before .before .before .before .before .before .before .before .before .before .before .before .before .before .before .before .before .before .before .args) .t .name) ((c .before .before .before .before .before .before .before .before .before .before .before .before .before .before .before .before .before .before .before .before .before .before .before .before .before .args) .t .from) ((c .before .before .before .before .before .before .before .before .before .before .before .before .before .before .before .before .before .before .before .before .before .before .before .before .before .args) .t .count) ((c .before .before .before .before .before .before .before .before .before .before .before .before .before .before .before .before .before .before .before .before .before .before .before .before .before .pre) .1 .2) refl ((c .before .before .before .before .before .before .before .before .before .before .before .before .before .before .before .before .before .before .before .before .before .before .before .before .before .pre) .1 .3) ((c .before .before .before .before .before .before .before .before .before .before .before .before .before .before .before .before .before .before .before .before .before .before .before .before .before .pre) .0 .1) ((c .before .before .before .before .before .before .before .before .before .before .before .before .before .before .before .surplus) .ensures) ((c .before .before .before .before .before .before .before .before .before .before .before .before .before .is-full) .ensures) ((c .before .before .before .before .before .before .before .before .before .before .before .before .if1) .left) ((c .before .before .before .before .before .before .before .before .insert) .ensures _ m w x) ((c .if2) .taken)
+returns-2 c =
+    let a = c .before .before .before .before .before .before .before .before .before .before .before .before .before .before .before .before .before .before .before .before .before .before .before .before .before .args in
+    let r = c .before .before .before .before .before .before .before .before .before .before .before .before .before .before .before .before .before .before .before .before .before .before .before .before .before .pre in
+    λ m w x. laws.call-pairs (a .h .now) (a .nodes .now) (a .list .now) m w (a .pairs .now) x (a .core) (a .input .now) (a .t .name) (a .t .from) (a .t .count) (r .1 .2) refl (r .1 .3) (r .0 .1) (c .before .before .before .before .before .before .before .before .before .before .before .before .before .before .before .surplus .ensures) (c .before .before .before .before .before .before .before .before .before .before .before .before .before .is-full .ensures) (c .before .before .before .before .before .before .before .before .before .before .before .before .if1 .left) (c .before .before .before .before .before .before .before .before .insert .ensures (a .list .now) m w x) (c .if2 .taken)
 
 enlist-requires : tie.Need-enlist-requires
-enlist-requires c κs = laws.enlist-can ((c .before .before .before .before .before .before .before .before .before .before .before .before .before .before .before .before .before .before .before .before .before .before .before .before .before .before .args) .h .now) ((c .before .before .before .before .before .before .before .before .before .before .before .before .before .before .before .before .before .before .before .before .before .before .before .before .before .before .args) .nodes .now) ((c .before .before .before .before .before .before .before .before .before .before .before .before .before .before .before .before .before .before .before .before .before .before .before .before .before .before .args) .list .now) [] [] ((c .before .before .before .before .before .before .before .before .before .before .before .before .before .before .before .before .before .before .before .before .before .before .before .before .before .before .args) .pairs .now) None ((c .before .before .before .before .before .before .before .before .before .before .before .before .before .before .before .before .before .before .before .before .before .before .before .before .before .before .args) .core) ((c .before .before .before .before .before .before .before .before .before .before .before .before .before .before .before .before .before .before .before .before .before .before .before .before .before .before .args) .input .now) ((c .before .before .before .before .before .before .before .before .before .before .before .before .before .before .before .before .before .before .before .before .before .before .before .before .before .before .args) .t .name) ((c .before .before .before .before .before .before .before .before .before .before .before .before .before .before .before .before .before .before .before .before .before .before .before .before .before .before .args) .t .from) ((c .before .before .before .before .before .before .before .before .before .before .before .before .before .before .before .before .before .before .before .before .before .before .before .before .before .before .args) .t .count) ((c .before .before .before .before .before .before .before .before .before .before .before .before .before .before .before .before .before .before .before .before .before .before .before .before .before .before .pre) .1 .2) refl ((c .before .before .before .before .before .before .before .before .before .before .before .before .before .before .before .before .before .before .before .before .before .before .before .before .before .before .pre) .1 .3) ((c .before .before .before .before .before .before .before .before .before .before .before .before .before .before .before .before .before .before .before .before .before .before .before .before .before .before .pre) .0 .1) ((c .before .before .before .before .before .before .before .before .before .before .before .before .before .before .before .before .surplus) .ensures) ((c .before .before .before .before .before .before .before .before .before .before .before .before .before .before .is-full) .ensures) (laws.count-kept ((c .before .before .before .before .before .before .before .before .before .before .before .before .before .before .before .before .before .before .before .before .before .before .before .before .before .before .args) .h .now) ((c .before .before .before .before .before .before .before .before .before .before .before .before .before .before .before .before .before .before .before .before .before .before .before .before .before .before .args) .nodes .now) ((c .before .before .before .before .before .before .before .before .before .before .before .before .before .before .before .before .before .before .before .before .before .before .before .before .before .before .args) .list .now) [] [] ((c .before .before .before .before .before .before .before .before .before .before .before .before .before .before .before .before .before .before .before .before .before .before .before .before .before .before .args) .pairs .now) None ((c .before .before .before .before .before .before .before .before .before .before .before .before .before .before .before .before .before .before .before .before .before .before .before .before .before .before .args) .core) ((c .before .before .before .before .before .before .before .before .before .before .before .before .before .before .before .before .before .before .before .before .before .before .before .before .before .before .args) .input .now) ((c .before .before .before .before .before .before .before .before .before .before .before .before .before .before .before .before .before .before .before .before .before .before .before .before .before .before .args) .t .name) ((c .before .before .before .before .before .before .before .before .before .before .before .before .before .before .before .before .before .before .before .before .before .before .before .before .before .before .args) .t .from) ((c .before .before .before .before .before .before .before .before .before .before .before .before .before .before .before .before .before .before .before .before .before .before .before .before .before .before .args) .t .count) ((c .before .before .before .before .before .before .before .before .before .before .before .before .before .before .before .before .before .before .before .before .before .before .before .before .before .before .pre) .1 .2) refl ((c .before .before .before .before .before .before .before .before .before .before .before .before .before .before .before .before .before .before .before .before .before .before .before .before .before .before .pre) .1 .3) ((c .before .before .before .before .before .before .before .before .before .before .before .before .before .before .before .before .before .before .before .before .before .before .before .before .before .before .pre) .0 .1) _ _ _ ((c .before .before .before .before .before .before .before .before .before .insert) .result .answer) ((c .before .before .before .before .before .before .before .before .before .insert) .result .core) ((c .before .before .before .before .before .before .before .before .before .insert) .ensures _ [] [] None)) ((c .before .before .before .before .before .before .before .before .before .before .before .before .before .before .before .before .before .before .before .before .before .before .before .before .before .before .pre) .1 .0) ((c .before .before .before .before .before .before .before .before .before .before .before .before .before .if1) .left)
+enlist-requires c κs =
+    let a = c .before .before .before .before .before .before .before .before .before .before .before .before .before .before .before .before .before .before .before .before .before .before .before .before .before .before .args in
+    let r = c .before .before .before .before .before .before .before .before .before .before .before .before .before .before .before .before .before .before .before .before .before .before .before .before .before .before .pre in
+    let i = c .before .before .before .before .before .before .before .before .before .insert in
+    laws.enlist-can (a .h .now) (a .nodes .now) (a .list .now) [] [] (a .pairs .now) None (a .core) (a .input .now) (a .t .name) (a .t .from) (a .t .count) (r .1 .2) refl (r .1 .3) (r .0 .1) (c .before .before .before .before .before .before .before .before .before .before .before .before .before .before .before .before .surplus .ensures) (c .before .before .before .before .before .before .before .before .before .before .before .before .before .before .is-full .ensures)
+    (laws.count-kept (a .h .now) (a .nodes .now) (a .list .now) [] [] (a .pairs .now) None (a .core) (a .input .now) (a .t .name) (a .t .from) (a .t .count) (r .1 .2) refl (r .1 .3) (r .0 .1) _ _ _ (i .result .answer) (i .result .core) (i .ensures (a .list .now) [] [] None))
+    (r .1 .0) (c .before .before .before .before .before .before .before .before .before .before .before .before .before .if1 .left)
 
 same-length-8 : tie.Need-same-length-8
-same-length-8 c = search needs
+same-length-8 c = c .before .before .before .before .before .before .before .before .before .before .before .h .given
 
 same-length-9 : tie.Need-same-length-9
-same-length-9 c = search needs
+same-length-9 c = c .before .before .before .before .before .before .before .before .before .nodes .given
 
 same-length-10 : tie.Need-same-length-10
-same-length-10 c = search needs
+same-length-10 c = c .before .before .before .before .before .before .before .pairs .given
 
 same-length-11 : tie.Need-same-length-11
-same-length-11 c = search needs
+same-length-11 c = c .before .list .given
 
 returns-3 : tie.Need-returns-3
-returns-3 c = λ m w x. laws.call-done _ _ _ m w _ x _ ((c .before .before .before .before .before .before .before .before .before .before .before .before .before .before .before .before .before .before .before .before .before .before .before .before .before .before .before .before .before .args) .input .now) ((c .before .before .before .before .before .before .before .before .before .before .before .before .before .before .before .before .before .before .before .before .before .before .before .before .before .before .before .before .before .args) .t .name) ((c .before .before .before .before .before .before .before .before .before .before .before .before .before .before .before .before .before .before .before .before .before .before .before .before .before .before .before .before .before .args) .t .from) ((c .before .before .before .before .before .before .before .before .before .before .before .before .before .before .before .before .before .before .before .before .before .before .before .before .before .before .before .before .before .args) .t .count) ((c .before .before .before .before .before .before .before .before .before .before .before .before .before .before .before .before .before .before .before .before .before .before .before .before .before .before .before .before .before .pre) .1 .2) refl ((c .before .before .before .before .before .before .before .before .before .before .before .before .before .before .before .before .before .before .before .before .before .before .before .before .before .before .before .before .before .pre) .1 .3) ((c .before .before .before .before .before .before .before .before .before .before .before .before .before .before .before .before .before .before .before .before .before .before .before .before .before .before .before .before .before .pre) .0 .1) ((c .before .before .before .before .before .before .before .before .before .before .before .before .before .before .before .before .before .before .before .surplus) .ensures) ((c .before .before .before .before .before .before .before .before .before .before .before .before .before .before .before .before .before .is-full) .ensures) ((c .before .before .before .before .before .before .before .before .before .before .before .before .before .before .before .before .if1) .left) ((c .before .before .before .before .before .before .before .before .before .before .before .before .insert) .ensures _ m w x) ((c .before .before .before .before .if2) .left) ((c .before .before .before .before .before .before .before .before .before .before .before .before .before .before .before .before .before .before .before .before .before .before .before .next) .ensures) ((c .before .before .enlist) .ensures _ _ m w _ x)
+returns-3 c =
+    let a = c .before .before .before .before .before .before .before .before .before .before .before .before .before .before .before .before .before .before .before .before .before .before .before .before .before .before .before .before .before .args in
+    let r = c .before .before .before .before .before .before .before .before .before .before .before .before .before .before .before .before .before .before .before .before .before .before .before .before .before .before .before .before .before .pre in
+    λ m w x. laws.call-done (a .h .now) (a .nodes .now) (a .list .now) m w (a .pairs .now) x (a .core) (a .input .now) (a .t .name) (a .t .from) (a .t .count) (r .1 .2) refl (r .1 .3) (r .0 .1) (c .before .before .before .before .before .before .before .before .before .before .before .before .before .before .before .before .before .before .before .surplus .ensures) (c .before .before .before .before .before .before .before .before .before .before .before .before .before .before .before .before .before .is-full .ensures) (c .before .before .before .before .before .before .before .before .before .before .before .before .before .before .before .before .if1 .left) (c .before .before .before .before .before .before .before .before .before .before .before .before .insert .ensures (a .list .now) m w x) (c .before .before .before .before .if2 .left) (c .before .before .before .before .before .before .before .before .before .before .before .before .before .before .before .before .before .before .before .before .before .before .before .next .ensures) (c .before .before .enlist .ensures _ _ m w _ x)
 
 pub create-listed-spec : {M : Type 1} → statement M
 create-listed-spec =

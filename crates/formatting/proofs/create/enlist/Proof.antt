@@ -2,6 +2,7 @@
 -- Assumes nothing.
 use Rattle.formatting.proofs.CreateLaws as laws
 use native.Mathlib.Omega.{arith}
+use mathlib.Core.Path.{_∙_}
 use borrow.Author.Needs.{needs}
 use Rattle.formatting.proofs.create.enlist.Statement.{statement}
 use Rattle.formatting.proofs.create.enlist.Tie as tie
@@ -28,16 +29,20 @@ with-list-requires-2 : tie.Need-with-list-requires-2
 with-list-requires-2 c κs = search needs
 
 same-length : tie.Need-same-length
-same-length c = search needs
+same-length c = c .before .before .list2 .given ∙ c .before .before .before .before .before .before .list .given
 
 returns : tie.Need-returns
-returns c = λ s n m p q x. laws.enlisted-at s n _ m p q x _ _ _ _ _ _ ((c .before .before .before .before .before .before .before .before .before .before .extra) .given .1) ((c .before .before .before .before .before .before .before .remove-at) .ensures .1) ((c .before .before .before .push) .ensures .1) ((c .with-list) .ensures)
+returns c =
+    let a = c .before .before .before .before .before .before .before .before .before .before .before .before .before .args in
+    λ s n m p q x. laws.enlisted-at s n (a .list .now) m p q x (a .core) _ _ (c .before .before .before .before .before .before .before .remove-at .result) (c .before .before .before .push .result) (a .n) (c .before .before .before .before .before .before .before .before .before .before .extra .given .1) (c .before .before .before .before .before .before .before .remove-at .ensures .1) (c .before .before .before .push .ensures .1) (c .with-list .ensures)
 
 same-length-2 : tie.Need-same-length-2
-same-length-2 c = search needs
+same-length-2 c = c .before .before .list3 .given
 
 returns-2 : tie.Need-returns-2
-returns-2 c = λ s n m p q x. laws.enlisted-none s n _ m p q x _ _ _ _ ((c .before .before .before .before .before .enum-told) .given .1) ((c .before .before .before .push2) .ensures .1) ((c .with-list2) .ensures)
+returns-2 c =
+    let a = c .before .before .before .before .before .before .before .before .args in
+    λ s n m p q x. laws.enlisted-none s n (a .list .now) m p q x (a .core) _ (c .before .before .before .push2 .result) (a .n) (c .before .before .before .before .before .enum-told .given .1) (c .before .before .before .push2 .ensures .1) (c .with-list2 .ensures)
 
 pub enlist-spec : {M : Type 1} → statement M
 enlist-spec =

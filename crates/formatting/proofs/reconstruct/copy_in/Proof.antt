@@ -2,6 +2,7 @@
 -- Assumes nothing.
 use Rattle.formatting.proofs.ReconstructLaws as laws
 use native.Mathlib.Omega.{arith}
+use mathlib.Core.Path.{_∙_}
 use borrow.Author.Needs.{needs}
 use Rattle.formatting.proofs.reconstruct.copy_in.Statement.{statement}
 use Rattle.formatting.proofs.reconstruct.copy_in.Tie as tie
@@ -28,7 +29,7 @@ attach-requires : tie.Need-attach-requires
 attach-requires c κs = search needs
 
 same-length : tie.Need-same-length
-same-length c = search needs
+same-length c = c .before .nodes2 .given ∙ c .before .before .before .before .before .nodes .given
 
 returns : tie.Need-returns
 returns c = ((c .before .before .before .before .before .before .before .before .next) .ensures, λ l m p q x. laws.copied-in _ _ l m p q x _ _ _ (omega arith) ((c .before .before .before .before .before .before .before .before .before .appropriate-place-for-insertion) .ensures) ((c .before .before .before .before .before .before .copy-element) .ensures) ((c .before .before .attach) .ensures))

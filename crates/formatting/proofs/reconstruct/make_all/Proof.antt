@@ -35,19 +35,22 @@ loop-less : tie.Need-loop-less Inv-loop μ-loop
 loop-less c = search needs
 
 loop-again : tie.Need-loop-again Inv-loop μ-loop
-loop-again c = (omega arith, omega (arith, (c .before .before .before .before .before .before .make-anew) .ensures .0 .0), omega (arith, (c .before .before .before .before .before .before .make-anew) .ensures .0 .0, (c .before .before .before .before .before .before .before .before .before .before .before .loop) .inv .2, (c .before .before .before .before .before .h) .given), (c .before .before .before .before .before .before .make-anew) .ensures .0 .1 ∙ (c .before .before .before .before .before .before .before .before .before .before .before .loop) .inv .3, omega (arith, (c .before .before .before .before .before .before .make-anew) .ensures .0 .2, (c .before .before .before .before .before .before .before .before .before .before .before .loop) .inv .4), search needs, search needs, search needs, λ m p q x. (c .before .before .before .before .before .before .before .before .before .before .before .loop) .inv .8 m p q x ∙ laws.anew-turn _ _ _ (omega arith) ((c .before .before .before .before .before .before .make-anew) .ensures .1 m p q x))
+loop-again c =
+    let n = c .before .before .before .before .before .before .make-anew .ensures in
+    let v = c .before .before .before .before .before .before .before .before .before .before .before .loop .inv in
+    (omega arith, omega (arith, n .0 .0), omega (arith, n .0 .0, v .2, c .before .before .before .before .before .h .given), n .0 .1 ∙ v .3, omega (arith, n .0 .2, v .4), c .before .before .before .before .before .h .given ∙ v .5, c .before .before .before .nodes .given ∙ v .6, c .before .list .given ∙ v .7, λ m p q x. v .8 m p q x ∙ laws.anew-turn _ _ _ (c .before .before .before .before .before .before .before .before .before .before .loop-test .taken) (n .1 m p q x))
 
 same-length : tie.Need-same-length Inv-loop μ-loop
-same-length c = search needs
+same-length c = c .before .loop .inv .5
 
 same-length-2 : tie.Need-same-length-2 Inv-loop μ-loop
-same-length-2 c = search needs
+same-length-2 c = c .before .loop .inv .6
 
 same-length-3 : tie.Need-same-length-3 Inv-loop μ-loop
-same-length-3 c = search needs
+same-length-3 c = c .before .loop .inv .7
 
 returns : tie.Need-returns Inv-loop μ-loop
-returns c = λ m p q x. laws.anew-end _ _ _ (omega arith) ∙ sym ((c .before .loop) .inv .8 m p q x)
+returns c = ((λ m p q x. laws.anew-end _ _ _ (omega arith) ∙ sym ((c .before .loop) .inv .8 m p q x)))
 
 pub make-all-spec : {M : Type 1} → statement M
 make-all-spec =

@@ -1,36 +1,34 @@
--- `formatting::surplus::first_same` meets its contract. No entry before i has the tag.
+-- `formatting::surplus::first_same` meets its contract. What was found, or else the first of the entries from i on, is the first of all.
 -- Assumes nothing.
 use Rattle.formatting.proofs.SurplusLaws as laws
 use borrow.Author.Needs.{needs}
-use Prim.Native.Nat.{_+_, _-_, _≤_}
-use mathlib.Core.Path.{_≡_, refl}
+use Prim.Native.Nat.{_-_, _≤_}
+use mathlib.Core.Path.{_≡_}
 use native.Mathlib.Omega.{arith}
 use lib.ListN.{take, drop}
+use Rattle.places.specs.Places.{firstOf}
 use Rattle.standard.specs.Pairs.{pairsIn}
-use Rattle.standard.specs.Formatting.{sameTag, before}
+use Rattle.standard.specs.Formatting.{sameTag}
+use Rattle.formatting.specs.First.{firstWith}
 use Rattle.formatting.proofs.surplus.first_same.Statement.{statement}
 use Rattle.formatting.proofs.surplus.first_same.Tie as tie
 
 abbrev Inv-loop : tie.InvT-loop
-Inv-loop nodes pairs input t list size first i₀ i = (first ≤ i) × (i ≤ size) × (first + before (sameTag nodes pairs (t .name) (pairsIn input (t .from) (t .count))) (drop first (take size list)) ≡ i + before (sameTag nodes pairs (t .name) (pairsIn input (t .from) (t .count))) (drop i (take size list)))
+Inv-loop nodes pairs input t list size first found₀ i₀ found i = (first ≤ i) × (i ≤ size) × (firstOf found (firstWith (sameTag nodes pairs (t .name) (pairsIn input (t .from) (t .count))) (drop i (take size list)) i) ≡ firstWith (sameTag nodes pairs (t .name) (pairsIn input (t .from) (t .count))) (drop first (take size list)) first)
 
 abbrev μ-loop : tie.MeasureT-loop
-μ-loop nodes pairs input t list size first i₀ i = size - i
+μ-loop nodes pairs input t list size first found₀ i₀ found i = size - i
 
 loop-holds : tie.Need-loop-holds Inv-loop μ-loop
-loop-holds c = (omega arith, omega arith, refl)
+loop-holds c =
+    let a = c .before .before .before .before .args in
+    (omega arith, omega arith, laws.found-none (firstWith (sameTag (a .nodes .now) (a .pairs .now) (a .t .name) (pairsIn (a .input .now) (a .t .from) (a .t .count))) (drop (a .first) (take (a .size) (a .list .now))) (a .first)))
 
-mul-t11 : tie.Need-mul-t11 Inv-loop μ-loop
-mul-t11 c = search needs
+same-at-requires : tie.Need-same-at-requires Inv-loop μ-loop
+same-at-requires c κs = search needs
 
-shared-slice-read-t13 : tie.Need-shared-slice-read-t13 Inv-loop μ-loop
-shared-slice-read-t13 c = search needs
-
-is-same-tag-requires : tie.Need-is-same-tag-requires Inv-loop μ-loop
-is-same-tag-requires c κs = search needs
-
-returns : tie.Need-returns Inv-loop μ-loop
-returns c = laws.before-hit (sameTag ((c .before .before .before .before .before .before .before .before .before .args) .nodes .now) ((c .before .before .before .before .before .before .before .before .before .args) .pairs .now) ((c .before .before .before .before .before .before .before .before .before .args) .t .name) (pairsIn ((c .before .before .before .before .before .before .before .before .before .args) .input .now) ((c .before .before .before .before .before .before .before .before .before .args) .t .from) ((c .before .before .before .before .before .before .before .before .before .args) .t .count))) ((c .before .before .before .before .before .before .before .before .before .args) .list .now) ((c .before .before .before .before .before .before .before .before .before .args) .size) ((c .before .before .before .before .loop) .i) (omega arith) (omega arith) ((c .before .is-same-tag) .ensures) ((c .if1) .taken) ((c .before .before .before .before .loop) .inv .2)
+first-of-requires : tie.Need-first-of-requires Inv-loop μ-loop
+first-of-requires c κs = search needs
 
 add-i : tie.Need-add-i Inv-loop μ-loop
 add-i c = search needs
@@ -39,10 +37,16 @@ loop-less : tie.Need-loop-less Inv-loop μ-loop
 loop-less c = search needs
 
 loop-again : tie.Need-loop-again Inv-loop μ-loop
-loop-again c = (omega arith, omega arith, laws.before-turn (sameTag ((c .before .before .before .before .before .before .before .before .before .args) .nodes .now) ((c .before .before .before .before .before .before .before .before .before .args) .pairs .now) ((c .before .before .before .before .before .before .before .before .before .args) .t .name) (pairsIn ((c .before .before .before .before .before .before .before .before .before .args) .input .now) ((c .before .before .before .before .before .before .before .before .before .args) .t .from) ((c .before .before .before .before .before .before .before .before .before .args) .t .count))) ((c .before .before .before .before .before .before .before .before .before .args) .list .now) ((c .before .before .before .before .before .before .before .before .before .args) .size) ((c .before .before .before .before .loop) .i) (omega arith) (omega arith) ((c .before .is-same-tag) .ensures) ((c .if1) .left) ((c .before .before .before .before .loop) .inv .2))
+loop-again c =
+    let a = c .before .before .before .before .before .before .before .before .args in
+    let l = c .before .before .before .loop in
+    (omega arith, omega arith, laws.first-turn (sameTag (a .nodes .now) (a .pairs .now) (a .t .name) (pairsIn (a .input .now) (a .t .from) (a .t .count))) (a .list .now) (a .size) (l .i) (omega arith) (l .found) (c .before .before .loop-test .taken) (c .before .same-at .ensures) (c .first-of .ensures) (l .inv .2))
 
-returns-2 : tie.Need-returns-2 Inv-loop μ-loop
-returns-2 c = laws.before-end (sameTag ((c .before .before .before .before .before .before .args) .nodes .now) ((c .before .before .before .before .before .before .args) .pairs .now) ((c .before .before .before .before .before .before .args) .t .name) (pairsIn ((c .before .before .before .before .before .before .args) .input .now) ((c .before .before .before .before .before .before .args) .t .from) ((c .before .before .before .before .before .before .args) .t .count))) ((c .before .before .before .before .before .before .args) .list .now) ((c .before .before .before .before .before .before .args) .size) ((c .before .loop) .i) (omega arith) (omega arith) ((c .before .loop) .inv .2)
+returns : tie.Need-returns Inv-loop μ-loop
+returns c =
+    let a = c .before .before .before .before .before .before .args in
+    let l = c .before .loop in
+    laws.first-end (sameTag (a .nodes .now) (a .pairs .now) (a .t .name) (pairsIn (a .input .now) (a .t .from) (a .t .count))) (a .list .now) (a .size) (l .i) (omega arith) (l .found) (omega arith) (l .inv .2)
 
 pub first-same-spec : {M : Type 1} → statement M
 first-same-spec =
@@ -51,11 +55,9 @@ first-same-spec =
     Inv-loop
     μ-loop
     loop-holds
-    mul-t11
-    shared-slice-read-t13
-    is-same-tag-requires
-    returns
+    same-at-requires
+    first-of-requires
     add-i
     loop-less
     loop-again
-    returns-2)
+    returns)

@@ -42,10 +42,17 @@ loop-less : tie.Need-loop-less Inv-loop μ-loop
 loop-less c = search needs
 
 loop-again : tie.Need-loop-again Inv-loop μ-loop
-loop-again c = (omega arith, omega arith, omega (arith, laws.one-or-none ((c .before .is-same-tag) .result) ((c .one-if) .ensures)), laws.many-turn (sameTag ((c .before .before .before .before .before .before .before .before .before .args) .nodes .now) ((c .before .before .before .before .before .before .before .before .before .args) .pairs .now) ((c .before .before .before .before .before .before .before .before .before .args) .t .name) (pairsIn ((c .before .before .before .before .before .before .before .before .before .args) .input .now) ((c .before .before .before .before .before .before .before .before .before .args) .t .from) ((c .before .before .before .before .before .before .before .before .before .args) .t .count))) ((c .before .before .before .before .before .before .before .before .before .args) .list .now) ((c .before .before .before .before .before .before .before .before .before .args) .size) ((c .before .before .before .before .loop) .i) (omega arith) _ _ (omega arith) ((c .before .is-same-tag) .ensures) ((c .one-if) .ensures) ((c .before .before .before .before .loop) .inv .3))
+loop-again c =
+    let a = c .before .before .before .before .before .before .before .before .before .args in
+    let l = c .before .before .before .before .loop in
+    let o = laws.one-or-none (c .before .is-same-tag .result) (c .one-if .ensures) in
+    (omega arith, omega arith, omega (arith, o), laws.many-turn (sameTag (a .nodes .now) (a .pairs .now) (a .t .name) (pairsIn (a .input .now) (a .t .from) (a .t .count))) (a .list .now) (a .size) (l .i) (omega arith) _ _ (omega arith) (c .before .is-same-tag .ensures) (c .one-if .ensures) (l .inv .3))
 
 returns : tie.Need-returns Inv-loop μ-loop
-returns c = laws.many-end (sameTag ((c .before .before .before .before .before .before .args) .nodes .now) ((c .before .before .before .before .before .before .args) .pairs .now) ((c .before .before .before .before .before .before .args) .t .name) (pairsIn ((c .before .before .before .before .before .before .args) .input .now) ((c .before .before .before .before .before .before .args) .t .from) ((c .before .before .before .before .before .before .args) .t .count))) ((c .before .before .before .before .before .before .args) .list .now) ((c .before .before .before .before .before .before .args) .size) ((c .before .loop) .i) (omega arith) _ (omega arith) ((c .before .loop) .inv .3)
+returns c =
+    let a = c .before .before .before .before .before .before .args in
+    let l = c .before .loop in
+    laws.many-end (sameTag (a .nodes .now) (a .pairs .now) (a .t .name) (pairsIn (a .input .now) (a .t .from) (a .t .count))) (a .list .now) (a .size) (l .i) (omega arith) _ (omega arith) (l .inv .3)
 
 pub how-many-spec : {M : Type 1} → statement M
 how-many-spec =

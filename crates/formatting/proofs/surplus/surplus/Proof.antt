@@ -14,13 +14,17 @@ how-many-requires : tie.Need-how-many-requires
 how-many-requires c κs = search needs
 
 returns : tie.Need-returns
-returns c = laws.surplus-none (sameTag ((c .before .before .before .before .before .before .before .args) .nodes .now) ((c .before .before .before .before .before .before .before .args) .pairs .now) ((c .before .before .before .before .before .before .before .args) .t .name) (pairsIn ((c .before .before .before .before .before .before .before .args) .input .now) ((c .before .before .before .before .before .before .before .args) .t .from) ((c .before .before .before .before .before .before .before .args) .t .count))) ((c .before .before .before .before .before .before .before .args) .list .now) ((c .before .before .before .before .before .before .before .args) .size) ((c .before .before .after-marker) .ensures .1) ((c .before .how-many) .ensures) ((c .if1) .taken)
+returns c =
+    let a = c .before .before .before .before .before .before .before .args in
+    laws.surplus-none (sameTag (a .nodes .now) (a .pairs .now) (a .t .name) (pairsIn (a .input .now) (a .t .from) (a .t .count))) (a .list .now) (a .size) (c .before .before .after-marker .ensures .1) (c .before .how-many .ensures) (c .if1 .taken)
 
 first-same-requires : tie.Need-first-same-requires
 first-same-requires c κs = search needs
 
 returns-2 : tie.Need-returns-2
-returns-2 c = laws.surplus-at (sameTag ((c .before .before .before .before .before .before .before .before .args) .nodes .now) ((c .before .before .before .before .before .before .before .before .args) .pairs .now) ((c .before .before .before .before .before .before .before .before .args) .t .name) (pairsIn ((c .before .before .before .before .before .before .before .before .args) .input .now) ((c .before .before .before .before .before .before .before .before .args) .t .from) ((c .before .before .before .before .before .before .before .before .args) .t .count))) ((c .before .before .before .before .before .before .before .before .args) .list .now) ((c .before .before .before .before .before .before .before .before .args) .size) ((c .before .before .before .after-marker) .ensures .1) ((c .before .before .how-many) .ensures) ((c .before .if1) .left) ((c .first-same) .ensures)
+returns-2 c =
+    let a = c .before .before .before .before .before .before .before .before .args in
+    laws.surplus-at (sameTag (a .nodes .now) (a .pairs .now) (a .t .name) (pairsIn (a .input .now) (a .t .from) (a .t .count))) (a .list .now) (a .size) (c .before .before .before .after-marker .ensures .1) (c .before .before .how-many .ensures) (c .before .if1 .left) (c .first-same .ensures)
 
 pub surplus-spec : {M : Type 1} → statement M
 surplus-spec =

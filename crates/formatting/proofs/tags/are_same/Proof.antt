@@ -29,7 +29,10 @@ pair-field-requires : tie.Need-pair-field-requires Inv-loop μ-loop
 pair-field-requires c κs = search needs
 
 returns : tie.Need-returns Inv-loop μ-loop
-returns c = laws.other-name _ _ _ _ _ _ (omega arith) ((c .before .before .before .pair-at) .ensures .0) ((c .before .before .pair-field) .ensures) ((c .before .before .before .before .before .loop) .inv .1) ((c .if1) .taken)
+returns c =
+    let a = c .before .before .before .before .before .before .before .before .args in
+    let l = c .before .before .before .before .before .loop in
+    laws.other-name (a .pairs .now) (a .input .now) (a .start) (l .at) (a .count) (l .i) (c .before .before .before .before .loop-test .taken) (c .before .before .before .pair-at .ensures .0) (c .before .before .pair-field .ensures) (l .inv .1) (c .if1 .taken)
 
 add-pair-field-2 : tie.Need-add-pair-field-2 Inv-loop μ-loop
 add-pair-field-2 c = search needs
@@ -38,7 +41,10 @@ pair-field-requires-2 : tie.Need-pair-field-requires-2 Inv-loop μ-loop
 pair-field-requires-2 c κs = search needs
 
 returns-2 : tie.Need-returns-2 Inv-loop μ-loop
-returns-2 c = laws.other-text _ _ _ _ _ _ (omega arith) ((c .before .before .before .before .before .before .pair-at) .ensures .0) ((c .before .before .before .before .before .pair-field) .ensures) ((c .before .before .before .before .before .before .before .before .loop) .inv .1) ((c .before .before .before .if1) .left) ((c .before .before .before .before .before .before .pair-at) .ensures .1) ((c .before .before .pair-field2) .ensures) ((c .if2) .taken)
+returns-2 c =
+    let a = c .before .before .before .before .before .before .before .before .before .before .before .args in
+    let l = c .before .before .before .before .before .before .before .before .loop in
+    laws.other-text (a .pairs .now) (a .input .now) (a .start) (l .at) (a .count) (l .i) (c .before .before .before .before .before .before .before .loop-test .taken) (c .before .before .before .before .before .before .pair-at .ensures .0) (c .before .before .before .before .before .pair-field .ensures) (l .inv .1) (c .before .before .before .if1 .left) (c .before .before .before .before .before .before .pair-at .ensures .1) (c .before .before .pair-field2 .ensures) (c .if2 .taken)
 
 add-i : tie.Need-add-i Inv-loop μ-loop
 add-i c = search needs
@@ -47,10 +53,17 @@ loop-less : tie.Need-loop-less Inv-loop μ-loop
 loop-less c = search needs
 
 loop-again : tie.Need-loop-again Inv-loop μ-loop
-loop-again c = (omega arith, laws.same-turn _ _ _ _ _ _ (omega arith) ((c .before .before .before .before .before .before .pair-at) .ensures .0) ((c .before .before .before .before .before .pair-field) .ensures) ((c .before .before .before .before .before .before .before .before .loop) .inv .1) ((c .before .before .before .if1) .left) ((c .before .before .before .before .before .before .pair-at) .ensures .1) ((c .before .before .pair-field2) .ensures) ((c .if2) .left) ((c .before .before .before .before .before .before .pair-at) .ensures .2))
+loop-again c =
+    let a = c .before .before .before .before .before .before .before .before .before .before .before .args in
+    let l = c .before .before .before .before .before .before .before .before .loop in
+    let p = c .before .before .before .before .before .before .pair-at .ensures in
+    (omega arith, laws.same-turn (a .pairs .now) (a .input .now) (a .start) (l .at) (a .count) (l .i) (c .before .before .before .before .before .before .before .loop-test .taken) (p .0) (c .before .before .before .before .before .pair-field .ensures) (l .inv .1) (c .before .before .before .if1 .left) (p .1) (c .before .before .pair-field2 .ensures) (c .if2 .left) (p .2))
 
 returns-3 : tie.Need-returns-3 Inv-loop μ-loop
-returns-3 c = laws.same-end _ _ _ _ _ _ (omega arith) ((c .before .loop) .inv .1)
+returns-3 c =
+    let a = c .before .before .before .before .args in
+    let l = c .before .loop in
+    laws.same-end (a .pairs .now) (a .input .now) (a .start) (l .at) (a .count) (l .i) (omega arith) (l .inv .1)
 
 pub are-same-spec : {M : Type 1} → statement M
 are-same-spec =

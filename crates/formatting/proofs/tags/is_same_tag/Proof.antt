@@ -9,13 +9,17 @@ get-requires : tie.Need-get-requires
 get-requires c κs = search needs
 
 returns : tie.Need-returns
-returns c = laws.tag-name _ _ _ _ _ _ _ ((c .before .before .get) .ensures) ((c .if1) .taken)
+returns c =
+    let a = c .before .before .before .before .before .before .args in
+    laws.tag-name (a .nodes .now) (a .pairs .now) (a .input .now) (a .t .name) (a .t .from) (a .t .count) (a .n .0) (c .before .before .get .ensures) (c .if1 .taken)
 
 get-requires-2 : tie.Need-get-requires-2
 get-requires-2 c κs = search needs
 
 returns-2 : tie.Need-returns-2
-returns-2 c = laws.tag-count _ _ _ _ _ _ _ ((c .before .before .before .before .before .get) .ensures) ((c .before .before .before .if1) .left) ((c .before .before .get2) .ensures) ((c .if2) .taken)
+returns-2 c =
+    let a = c .before .before .before .before .before .before .before .before .before .args in
+    laws.tag-count (a .nodes .now) (a .pairs .now) (a .input .now) (a .t .name) (a .t .from) (a .t .count) (a .n .0) (c .before .before .before .before .before .get .ensures) (c .before .before .before .if1 .left) (c .before .before .get2 .ensures) (c .if2 .taken)
 
 get-requires-3 : tie.Need-get-requires-3
 get-requires-3 c κs = search needs
@@ -30,7 +34,9 @@ are-same-requires : tie.Need-are-same-requires
 are-same-requires c κs = search needs
 
 returns-3 : tie.Need-returns-3
-returns-3 c = laws.tag-pairs _ _ _ _ _ _ _ ((c .before .before .before .before .before .before .before .before .get) .ensures) ((c .before .before .before .before .before .before .if1) .left) ((c .before .before .before .before .before .get2) .ensures) ((c .before .before .before .if2) .left) ((c .before .before .get3) .ensures) ((c .are-same) .ensures)
+returns-3 c =
+    let a = c .before .before .before .before .before .before .before .before .before .before .before .before .args in
+    laws.tag-pairs (a .nodes .now) (a .pairs .now) (a .input .now) (a .t .name) (a .t .from) (a .t .count) (a .n .0) (c .before .before .before .before .before .before .before .before .get .ensures) (c .before .before .before .before .before .before .if1 .left) (c .before .before .before .before .before .get2 .ensures) (c .before .before .before .if2 .left) (c .before .before .get3 .ensures) (c .are-same .ensures)
 
 pub is-same-tag-spec : {M : Type 1} → statement M
 is-same-tag-spec =

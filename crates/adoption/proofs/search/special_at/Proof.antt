@@ -1,0 +1,21 @@
+-- `adoption::search::special_at` meets its contract.
+-- Assumes nothing.
+use Rattle.adoption.proofs.SearchLaws as laws
+use borrow.Author.Needs.{needs}
+use Rattle.stacks.specs.Walk.{namesOf}
+use Rattle.adoption.proofs.search.special_at.Statement.{statement}
+use Rattle.adoption.proofs.search.special_at.Tie as tie
+
+is-of-requires : tie.Need-is-of-requires
+is-of-requires c κs = search needs
+
+returns : tie.Need-returns
+unfolding namesOf
+returns c = laws.special-is _ ((c .before .is-of) .ensures) ((c .if1) .taken)
+
+returns-2 : tie.Need-returns-2
+unfolding namesOf
+returns-2 c = laws.special-not _ ((c .before .is-of) .ensures) ((c .if1) .left)
+
+pub special-at-spec : {M : Type 1} → statement M
+special-at-spec = tie.close (tie.spec is-of-requires returns returns-2)

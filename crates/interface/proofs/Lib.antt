@@ -1,0 +1,10 @@
+pub mod Lowest
+pub mod Entry
+pub mod Reset
+pub mod Exact
+pub mod Never
+pub mod Settled
+pub mod Complete
+pub mod Words
+pub mod Demanded
+pub mod Reported

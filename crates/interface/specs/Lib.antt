@@ -1,0 +1,5 @@
+pub mod Questions
+pub mod Calls
+pub mod Edge
+pub mod Public
+pub mod Demands
