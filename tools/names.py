@@ -16,6 +16,8 @@ CRATE = ROOT / 'crates' / 'names'
 BITS = 64
 NAMESPACES = ('html', 'math', 'svg')
 WIDTH = 120
+# The most constants that one function of `tag` lists.
+PART = 30
 
 # Names that rules speak of and that no set has.
 FURTHER = '''
@@ -55,6 +57,13 @@ def read_sets(text):
     return lists, sets
 
 
+def even_parts(items, most):
+    """As few parts as can be, none much shorter than the others."""
+    count = -(-len(items) // most)
+    each = -(-len(items) // count)
+    return [items[i:i + each] for i in range(0, len(items), each)]
+
+
 class Table:
     """The names by number, and what is counted of them."""
 
@@ -68,6 +77,7 @@ class Table:
             if name not in self.number:
                 sys.exit(f'names.txt: no {name}')
         self.tags = sorted(set(named), key=self.number.__getitem__)
+        self.parts = even_parts(self.tags, PART)
         self.limit = len(names) + 1
         self.each = -(-self.limit // BITS)
         self.span = self.each * BITS
@@ -113,6 +123,10 @@ def antt_list(items):
     return filled([f'{item} ∷' for item in items] + ['[]'])
 
 
+def part_names(table):
+    return [f'tags{n}' for n in range(1, len(table.parts) + 1)]
+
+
 def one_a_line(items, indent):
     return '\n'.join(' ' * indent + item for item in items)
 
@@ -135,21 +149,24 @@ pub const STARTS: [u16; {len(starts)}] = [
 
 def tag_rt(table):
     constants = '\n\n'.join(f'pub const {constant(tag)}: u16 = {table.number[tag]};' for tag in table.tags)
+    functions = '\n\n'.join(
+        f'''pub fn all_{n}() -> [u16; {len(part)}]
+    ensures {{ λ r. ⌜ r ≡ tags{n} ⌝ }}
+{{
+    [
+{one_a_line((constant(tag) + ',' for tag in part), 8)}
+    ]
+}}'''
+        for n, part in enumerate(table.parts, 1))
     return f'''// {WITH_SETS}.
 // The numbers of names that rules speak of, by name. specs/Tag.antt has the same, and proofs/Tags.antt ties each to its bytes.
 ghost use mathlib.Core.Path.{{_≡_}};
-ghost use Rattle.names.specs.Tags.{{allTags}};
+ghost use Rattle.names.specs.Tags.{{{', '.join(part_names(table))}}};
 
 {constants}
 
-// All of them, so that the check holds each to its definition.
-pub fn all() -> [u16; {len(table.tags)}]
-    ensures {{ λ r. ⌜ r ≡ allTags ⌝ }}
-{{
-    [
-{one_a_line((constant(tag) + ',' for tag in table.tags), 8)}
-    ]
-}}
+// All of them, part by part, so that the check holds each to its definition.
+{functions}
 '''
 
 
@@ -219,16 +236,22 @@ use Prim.Native.Nat.{{ℕ}}
 
 
 def tags_antt(table):
+    parts = '\n\n'.join(
+        f'''abbrev pub {name} : List ℕ
+{name} =
+{antt_list(f'tag.{tag}' for tag in part)}'''
+        for name, part in zip(part_names(table), table.parts))
     return f'''-- {WITH_SETS}.
--- All constants of `Tag`, in the table's order.
+-- All constants of `Tag`, in the table's order, in parts of {PART} at most.
 -- Assumes nothing.
 use Prim.Native.Nat.{{ℕ}}
-use mathlib.Core.List.{{List, [], _∷_}}
+use mathlib.Core.List.{{List, [], _∷_, _++_}}
 use Rattle.names.specs.Tag as tag
 
+{parts}
+
 abbrev pub allTags : List ℕ
-allTags =
-{antt_list(f'tag.{tag}' for tag in table.tags)}
+allTags = {' ++ '.join(part_names(table))}
 '''
 
 

@@ -20,13 +20,12 @@ use Rattle.standard.specs.declared.Place.{Place}
 use Rattle.standard.specs.Place.{appropriatePlace, attached}
 use Rattle.standard.specs.Adoption.{placedAt, rehung}
 use Rattle.standard.specs.Adoption as def
-use Rattle.small.proofs.Laws.{size-of}
+use Rattle.small.proofs.Laws.{size-of, all-put}
 use Rattle.builder.proofs.InsertionLaws.{fresh-is}
 use Rattle.adopted.specs.declared.bookmark.Bookmark.{Bookmark}
 use Rattle.adopted.specs.declared.bookmark.Bookmark.the-variants.{Replace, InsertAfter}
 use Rattle.adopted.specs.Bookmark.{Inner, innerAt, inner, started, relisted, finished, adopted}
 use Rattle.adopted.specs.Firm.{Firm}
-use Rattle.adopted.proofs.WalkLaws.{all-put}
 use Rattle.adopted.proofs.Simulation.{same-adopted}
 
 pub rehung-is : (n : List ℕ) (new fe block : ℕ) {a b r : List ℕ} → a ≡ copied n new fe → b ≡ moved a block new → r ≡ appended b block new → r ≡ rehung n new fe block

@@ -16,7 +16,7 @@ use Rattle.places.specs.declared.Found.{Found}
 use Rattle.places.specs.declared.Found.the-variants.{At, Nothing}
 use Rattle.standard.specs.Stack.{isOf, named, inScope, endedAt, endTag}
 use Rattle.standard.specs.Adoption.{gone, atMark, relisted}
-use Rattle.stacks.proofs.Pops.{last-found}
+use Rattle.places.proofs.Laws.{last-found}
 use Rattle.stacks.proofs.StackLaws.{end-cut}
 use Rattle.adopted.proofs.Position.{place-last}
 

@@ -14,12 +14,11 @@ use lib.Seq.{take-at, drop-at, set-split, length-take-le, getD-append-add, getD-
 use borrow.Author.Tests.{eqb-true, eqb-false, lt-ltb, le-ltb, ltb-true, ltb-false}
 use Rattle.places.specs.Places.{Places, Whole, at, without, within, swapped, placeOf, lastWith, down, same, never, exchanged, renamed}
 use Rattle.places.specs.declared.Found.the-variants.{At}
-use Rattle.places.proofs.Laws.{places-eq, renamed-at, after-at, exchanged-at}
+use Rattle.places.proofs.Laws.{Last, last-found, last-same, places-eq, renamed-at, after-at, exchanged-at}
 use Rattle.standard.specs.Html.{isHtml}
 use Rattle.standard.specs.Stack.{named}
 use Rattle.standard.specs.Small.{MARKER}
 use Rattle.standard.specs.Adoption.{entryOf, gone, atMark}
-use Rattle.stacks.proofs.Pops.{Last, last-found, last-same}
 
 -- ---- searches
 

@@ -15,11 +15,10 @@ use borrow.Author.Tests.{eq-eqb, ne-eqb, eqb-true, eqb-false, ltb-false}
 use Rattle.places.specs.Places.{Places, Whole, at, same, without, swapped, placeOf, exchanged, renamed}
 use Rattle.places.specs.declared.Found.{Found}
 use Rattle.places.specs.declared.Found.the-variants.{At, Nothing}
-use Rattle.places.proofs.Laws.{exchanged-none}
+use Rattle.places.proofs.Laws.{Last, exchanged-none}
 use Rattle.state.specs.Full.{Full, withStack, withList, withNodes}
 use Rattle.standard.specs.Place.{node}
 use Rattle.standard.specs.Adoption.{entryOf, furthestOf, Inner, innerAt, gone, leftStack, leftBoth, renewedIn, renewedAt, turnAt, turned, inner, atMark, relisted, finished, started, adopted}
-use Rattle.stacks.proofs.Pops.{Last}
 use Rattle.adopted.specs.declared.bookmark.Bookmark.{Bookmark}
 use Rattle.adopted.specs.declared.bookmark.Bookmark.the-variants.{Replace, InsertAfter}
 use Rattle.adopted.specs.Bookmark as bookmark

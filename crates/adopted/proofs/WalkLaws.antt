@@ -9,17 +9,17 @@ use borrow.Author.Tests.{lt-ltb, le-ltb, eq-eqb, ne-eqb}
 use Rattle.arena.specs.Links.{appended, detached}
 use Rattle.arena.specs.Make.{copied}
 use Rattle.arena.specs.Room.{fresh}
-use Rattle.places.specs.Places.{Places, placesOf, at, without, withoutAny, swapped, placeOf}
+use Rattle.places.specs.Places.{placesOf, at, without, withoutAny, swapped, placeOf}
 use Rattle.places.specs.declared.Found.{Found}
 use Rattle.places.specs.declared.Found.the-variants.{At, Nothing}
 use Rattle.places.proofs.Laws.{at-of, without-in}
 use Rattle.state.specs.declared.Core.{Core}
 use Rattle.state.specs.declared.Context.{Context}
 use Rattle.state.specs.Fields.{setDepth, setCounts, setNodes, setList}
-use Rattle.state.specs.Full.{Full, full, withStack, withList, withNodes}
+use Rattle.state.specs.Full.{Full, full, withStack, withList}
 use Rattle.standard.specs.Place.{node}
 use Rattle.standard.specs.Adoption.{leftStack, leftBoth, renewed, renewedIn}
-use Rattle.small.proofs.Laws.{stack-put}
+use Rattle.small.proofs.Laws.{stack-put, all-put, depth-stays, list-stays}
 use Rattle.builder.proofs.InsertionLaws.{fresh-is}
 use Rattle.adopted.specs.declared.bookmark.Bookmark.{Bookmark}
 use Rattle.adopted.specs.declared.bookmark.Bookmark.the-variants.{Replace, InsertAfter}
@@ -43,12 +43,6 @@ inner-eq ef ea eo = cc
 -- ---- what is written
 
 module _ (s n l m p q : List ℕ) (x : Context) (c : Core) where
-  -- the stack, the nodes and the list
-  pub all-put : (s′ n′ l′ : List ℕ) (k d e : ℕ) (P Q : Places) {c₁ c₂ c′ : Core} → c₁ ≡ setNodes c k → c₂ ≡ setDepth c₁ d → c′ ≡ setList c₂ e
-      → placesOf s′ d ≡ P → placesOf l′ e ≡ Q → full s′ c′ x n′ l′ m p q ≡ withList (withStack (withNodes (full s c x n l m p q) n′ k) P) Q
-  unfolding withList withStack withNodes setDepth setNodes setList setCounts
-  all-put s′ n′ l′ k d e P Q ek ed ee ep eq = rw (ee, ed, ek, ep, eq)
-
   pub stack-left : (s′ : List ℕ) (i d : ℕ) {c′ : Core} → i < c .depth → placesOf s′ d ≡ withoutAny (placesOf s (c .depth)) i → c′ ≡ setDepth c d
       → full s′ c′ x n l m p q ≡ leftStack (full s c x n l m p q) i
   unfolding leftStack
@@ -75,14 +69,6 @@ pub counts-nodes : (c : Core) (k : ℕ) {c′ : Core} → c′ ≡ setNodes c k
 unfolding setNodes setCounts
 counts-nodes c k ek = rw ek (refl, refl, refl)
 
-same-depth : (c : Core) (k : ℕ) → setNodes c k ≡ setDepth (setNodes c k) (c .depth)
-unfolding setDepth setNodes setCounts
-same-depth c k = refl
-
-same-list : (c : Core) (k : ℕ) → setNodes c k ≡ setList (setNodes c k) (c .counts .list)
-unfolding setList setNodes setCounts
-same-list c k = refl
-
 -- ---- one turn, for the node at entry i of the stack
 
 module _ (w : Inner) (block i k : ℕ) where
@@ -107,10 +93,9 @@ module _ (s n l m p q : List ℕ) (x : Context) (c : Core) (last : ℕ) (mark : 
   unfolding renewedAt renewedIn
   renewed-at j s′ l′ {a} {n′} {c′} {b} h ea en es el ec eb =
       let e : a ≡ c .counts .nodes + 1 = ea ∙ fresh-is (c .counts .nodes) (omega arith) in
-      let ed : c′ ≡ setDepth c′ (c .depth) = rw ec (same-depth c (c .counts .nodes + 1)) in
-      let ee : c′ ≡ setList c′ (c .counts .list) = rw ec (same-list c (c .counts .nodes + 1)) in
+      let t = counts-nodes c (c .counts .nodes + 1) ec in
       inner-eq
-      (all-put s n l m p q x c s′ n′ l′ _ (c .depth) (c .counts .list) _ _ ec ed ee es el ∙ rw (en, at-of s (c .depth) i lt, e))
+      (all-put s n l m p q x c s′ n′ l′ _ (c .depth) (c .counts .list) _ _ ec (depth-stays c′ (c .depth) (t .0)) (list-stays c′ (c .counts .list) (t .1)) es el ∙ rw (en, at-of s (c .depth) i lt, e))
       e
       (eb ∙ rw e)
 

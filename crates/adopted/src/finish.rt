@@ -1,7 +1,7 @@
 // Steps 4.9 to 4.12 and 4.14 to 4.19: what is done before and after the inner loop.
 ghost use mathlib.Core.Path.{_≡_};
 ghost use mathlib.Core.List.{List};
-ghost use Prim.Native.Nat.{ℕ, _+_, _-_, _<_, _≤_};
+ghost use Prim.Native.Nat.{ℕ, _+_, _<_, _≤_};
 ghost use lib.ListN.{length, getD};
 ghost use Rattle.places.specs.Places.{placesOf, placeOf};
 ghost use Rattle.places.specs.declared.Found.the-variants.{At};
@@ -82,13 +82,6 @@ fn finish(
     core.with_nodes(used + 1).with_depth(depth).with_list(count)
 }
 
-// The place right above, or the topmost.
-fn above(s: usize) -> usize
-    ensures { λ r. ⌜ r ≡ s - 1 ⌝ }
-{
-    if 0 < s { s - 1 } else { 0 }
-}
-
 // 4.9 to 4.19: fe is entry s of the stack, and its furthest block entry b.
 pub fn adopt(
     h: &mut [u16],
@@ -105,7 +98,7 @@ pub fn adopt(
     ensures { λ r. ⌜ ((j : ℕ) (m p q : List ℕ) (x : Context) → placeOf (placesOf (now (list .entry)) (core .counts .list)) fe ≡ At j → getD (now (h .entry)) s 0 ≡ fe → full (now (h .exit)) r x (now (nodes .exit)) (now (list .exit)) m p q ≡ adopted (full (now (h .entry)) core x (now (nodes .entry)) (now (list .entry)) m p q) fe s j b) ⌝ }
 {
     let block = h[b];
-    let up = above(s);
+    let up = places::previous(s);
     let ancestor = h[up];
     let w = crate::walk::walk_up(h, core, nodes, list, fe, block, b);
     finish(h, w, nodes, list, fe, block, ancestor)

@@ -24,7 +24,7 @@ use Rattle.standard.specs.Html.{isHtml}
 use Rattle.standard.specs.Stack.{shorter}
 use Rattle.standard.specs.Adoption.{Turn, entryOf, rounded, rounds, currentAt, agency, fewNodes, adoption, leaves, misnestedAt, misnested}
 use Rattle.small.proofs.Laws.{size-of, stack-put}
-use Rattle.stacks.proofs.StackLaws.{current-of}
+use Rattle.builder.proofs.InsertionLaws.{current-of}
 use Rattle.adoption.specs.Turns.{turnOf, further}
 use Rattle.adoption.proofs.TurnLaws.{both-put}
 

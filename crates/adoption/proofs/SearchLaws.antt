@@ -12,12 +12,11 @@ use Rattle.names.specs.Sets.{Special}
 use Rattle.places.specs.Places.{placesOf, at, same, never, down, firstOf, placeOf}
 use Rattle.places.specs.declared.Found.{Found}
 use Rattle.places.specs.declared.Found.the-variants.{At, Nothing}
-use Rattle.places.proofs.Laws.{down-none, down-hit, down-stop, down-on, lastWith-of, lastWith-lt, place-lt, at-of}
+use Rattle.places.proofs.Laws.{down-none, down-hit, down-stop, down-on, lastWith-of, lastWith-lt, last-found, place-lt, at-of}
 use Rattle.standard.specs.Small.{MARKER}
 use Rattle.standard.specs.Html.{isHtml}
 use Rattle.standard.specs.Stack.{isOf, named}
 use Rattle.standard.specs.Adoption.{entryOf, specialFrom, furthestOf}
-use Rattle.stacks.proofs.Pops.{last-found}
 use Rattle.adopted.proofs.Position.{entry-last}
 use Rattle.adopted.proofs.FirmLaws as adopted-laws
 

@@ -25,7 +25,7 @@ use Rattle.lent.specs.Mem.{NODES, PIECES, PAIRS, slots, field, putField, END}
 use Rattle.arena.specs.Room.{freeNodes, freePieces, freePairs, fresh}
 use Rattle.arena.specs.Make.{element, comment, text, piece, pieceAfter, nodesOf}
 
-current-of : (s : List ℕ) (d : ℕ) → 0 < d → current (placesOf s d) ≡ getD s (d - 1) 0
+pub current-of : (s : List ℕ) (d : ℕ) → 0 < d → current (placesOf s d) ≡ getD s (d - 1) 0
 unfolding current placesOf
 current-of s d h = rw (size-of s d) (at-of s d (d - 1) (omega arith))
 

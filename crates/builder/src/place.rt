@@ -1,6 +1,6 @@
 // The appropriate place for inserting a node (13.2.6.1), and what is done there.
 ghost use mathlib.Core.Path.{_≡_};
-ghost use Prim.Native.Nat.{_<_, _≤_, _-_};
+ghost use Prim.Native.Nat.{_<_, _≤_};
 ghost use lib.ListN.{length};
 ghost use Rattle.places.specs.Places.{placesOf, at, lastWith, never};
 ghost use Rattle.standard.specs.Place.{endOf, beforeTable, tablePlace, templateOrTable, isFosterStop, fosterPlace, appropriatePlace, attached, siblingBefore, textBefore};
@@ -38,16 +38,10 @@ fn table_place(nodes: &[u8], h: &[u16], depth: usize, i: usize) -> Place
 {
     let t = h[i];
     if lent::get(nodes, Node(t), Node::PARENT) == Node::NONE {
-        let up = below(i);
+        let up = places::previous(i);
         return end_of(nodes, Node(h[up]));
     }
     before_table(nodes, Node(t))
-}
-
-fn below(i: usize) -> usize
-    ensures { λ r. ⌜ r ≡ i - 1 ⌝ }
-{
-    if 0 < i { i - 1 } else { 0 }
 }
 
 // Entry i of the stack is the last template or table.

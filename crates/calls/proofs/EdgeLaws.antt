@@ -16,10 +16,11 @@ use Rattle.state.specs.declared.Context.{Context}
 use Rattle.state.specs.declared.State.{State}
 use Rattle.state.specs.Fields.{coreOf, stateOf}
 use Rattle.state.specs.Full.{Full, Result, full, result, refused}
+use Rattle.records.specs.declared.Record.{Record}
 use Rattle.records.specs.declared.Item.{Item}
 use Rattle.records.specs.declared.Item.the-variants as is
 use Rattle.records.specs.Record.{itemAt}
-use Rattle.standard.specs.Step.{asked, step}
+use Rattle.standard.specs.Step.{step}
 use Rattle.standard.specs.Run.{ran, runOf, onSingle, single}
 use Rattle.calls.specs.Public.{Checked, whole}
 
@@ -46,7 +47,7 @@ checked-yes {r = r} w h e = record { ok = r; says = w; is = rw h e }
 -- ---- a single call, by what its record is
 
 module _ (s : List ℕ) (f : Full) {i : Item} (ei : i ≡ itemAt s 0) where
-  pub single-call : {k a b c from count next : ℕ} {y : Result} → i ≡ is.Call k a b c from count next → y ≡ step s (asked k a b c from count) f → y ≡ single s f
+  pub single-call : {r : Record} {next : ℕ} {y : Result} → i ≡ is.Call r next → y ≡ step s r f → y ≡ single s f
   unfolding single onSingle
   single-call e h = rw (sym ei ∙ e) h
 

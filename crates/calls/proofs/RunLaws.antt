@@ -8,6 +8,7 @@ use native.Mathlib.Omega.{arith}
 use lib.ListN.{length}
 use lib.Dec.{ltb, eqb}
 use borrow.Author.Tests.{eq-eqb, ne-eqb, lt-ltb, le-ltb, ltb-true, ltb-false}
+use Rattle.records.specs.declared.Record.{Record}
 use Rattle.records.specs.declared.Item.{Item}
 use Rattle.records.specs.declared.Item.the-variants as is
 use Rattle.records.specs.Record.{itemAt}
@@ -15,7 +16,7 @@ use Rattle.records.proofs.Past.{item-past}
 use Rattle.state.specs.Full.{Full, Result, result}
 use Rattle.sound.specs.State.{SoundFull}
 use Rattle.kept.specs.Step.{step-sound}
-use Rattle.standard.specs.Step.{Asked, asked, step}
+use Rattle.standard.specs.Step.{step}
 use Rattle.standard.specs.Run.{Ran, ran, unlessRefused, onItem, runFor, runFrom, runOf}
 
 -- what follows decides: two ways to go on that agree everywhere agree here
@@ -27,9 +28,9 @@ same-unless r n g h e = by (eqb (r .answer) 0)
     by true = e (r .after)
     by false = refl
 
-same-item : (i : Item) (n : ℕ) (f : Full) (g h : Asked → ℕ → Ran) → ((k a b c from count next : ℕ) → i ≡ is.Call k a b c from count next → g (asked k a b c from count) next ≡ h (asked k a b c from count) next) → onItem i n f g ≡ onItem i n f h
+same-item : (i : Item) (n : ℕ) (f : Full) (g h : Record → ℕ → Ran) → ((r : Record) (next : ℕ) → i ≡ is.Call r next → g r next ≡ h r next) → onItem i n f g ≡ onItem i n f h
 unfolding onItem
-same-item (is.Call k a b c from count next) n f g h e = e k a b c from count next refl
+same-item (is.Call r next) n f g h e = e r next refl
 same-item is.Unknown n f g h e = refl
 same-item is.Bad n f g h e = refl
 
@@ -39,8 +40,8 @@ run-done zero s i n f h = refl
 run-done (suc k) s i n f h = simp (le-ltb _ _ h)
 
 -- the record at the front, with k more allowed
-go : ℕ → List ℕ → ℕ → Full → Asked → ℕ → Ran
-go k s n f x next = unlessRefused (step s x f) n (runFor k s next (n + 1))
+go : ℕ → List ℕ → ℕ → Full → Record → ℕ → Ran
+go k s n f r next = unlessRefused (step s r f) n (runFor k s next (n + 1))
 
 run-front : (k : ℕ) (s : List ℕ) (i n : ℕ) (f : Full) → i < length s → runFor (suc k) s i n f ≡ onItem (itemAt s i) n f (go k s n f)
 unfolding runFor go
@@ -57,7 +58,7 @@ run-enough (suc k) (suc m) s i n f a b =
     by : ((next : ℕ) → i < next → (f′ : Full) → runFor k s next (n + 1) f′ ≡ runFor m s next (n + 1) f′) → (t : Bool) → ltb i (length s) ≡ t → runFor (suc k) s i n f ≡ runFor (suc m) s i n f
     by again true e =
         run-front k s i n f (ltb-true _ _ e)
-        ∙ same-item (itemAt s i) n f (go k s n f) (go m s n f) (λ k′ a′ b′ c from count next x. same-unless _ n _ _ (again next (item-past s i x)))
+        ∙ same-item (itemAt s i) n f (go k s n f) (go m s n f) (λ r next x. same-unless _ n _ _ (again next (item-past s i x)))
         ∙ sym (run-front m s i n f (ltb-true _ _ e))
     by again false e = run-done (suc k) s i n f (ltb-false _ _ e) ∙ sym (run-done (suc m) s i n f (ltb-false _ _ e))
 
@@ -78,16 +79,16 @@ module _ (s : List ℕ) (i n : ℕ) (f : Full) (inside : i < length s) where
   unfolding onItem
   run-bad e = sym (front ∙ rw e)
 
-  module _ {k a b c from count next : ℕ} (e : itemAt s i ≡ is.Call k a b c from count next) where
-    pub run-refused : {x : ℕ} {g : Full} → result x g ≡ step s (asked k a b c from count) f → (x ≡ 0 → ⊥) → ran x n g ≡ runFrom s i n f
+  module _ {r : Record} {next : ℕ} (e : itemAt s i ≡ is.Call r next) where
+    pub run-refused : {x : ℕ} {g : Full} → result x g ≡ step s r f → (x ≡ 0 → ⊥) → ran x n g ≡ runFrom s i n f
     unfolding onItem go unlessRefused
     run-refused y h = sym (front ∙ rw (e, ← y) (simp (ne-eqb _ _ h)))
 
-    pub run-more : {x : ℕ} {g : Full} → result x g ≡ step s (asked k a b c from count) f → x ≡ 0 → runFrom s next (n + 1) g ≡ runFrom s i n f
+    pub run-more : {x : ℕ} {g : Full} → result x g ≡ step s r f → x ≡ 0 → runFrom s next (n + 1) g ≡ runFrom s i n f
     unfolding onItem go unlessRefused runFrom
     run-more {x} {g} y h =
         sym (front ∙ rw (e, ← y) (simp (eq-eqb _ _ h) (run-enough (length s - i - 1) (length s - next) s next (n + 1) g (omega (arith, item-past s i e)) (omega (arith, item-past s i e)))))
 
 -- the state after a call that was done is sound
-pub after-sound : (s : List ℕ) (r : Asked) (f : Full) {x : ℕ} {g : Full} → SoundFull f → result x g ≡ step s r f → SoundFull g
+pub after-sound : (s : List ℕ) (r : Record) (f : Full) {x : ℕ} {g : Full} → SoundFull f → result x g ≡ step s r f → SoundFull g
 after-sound s r f ok e = rw (← ap (λ (y : Result). y .after) e) at (step-sound f ok s r)

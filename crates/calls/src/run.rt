@@ -14,7 +14,7 @@ use state::Done;
 use state::Stack;
 use state::State;
 
-// A run's answer, how many records were done, and the record after it.
+// A run's answer, how many records were done, and the `Core` after it.
 pub struct Went {
     pub answer: usize,
     pub done: usize,
@@ -51,6 +51,17 @@ fn check(
     )
 }
 
+// A run that stops with this answer, after so many records.
+fn stopped(answer: usize, done: usize, core: Core) -> Went
+    ensures { λ r. ⌜ (r .answer ≡ answer) × (r .done ≡ done) × (r .core ≡ core) ⌝ }
+{
+    Went {
+        answer: answer,
+        done: done,
+        core: core,
+    }
+}
+
 // One record after the other, until one is refused.
 fn run_all(
     h: &mut [u16],
@@ -71,63 +82,24 @@ fn run_all(
     let mut n: usize = 0;
     while at < input.len() {
         match records::item_at(input, at) {
-            Item::Call {
-                call: k,
-                a,
-                b,
-                c,
-                from,
-                count,
-                next,
-            } => {
-                let d = dispatch::call(
-                    h,
-                    st,
-                    nodes,
-                    list,
-                    modes,
-                    pieces,
-                    pairs,
-                    input,
-                    k,
-                    a,
-                    b,
-                    c,
-                    from,
-                    count,
-                );
+            Item::Call(r, next) => {
+                let d = dispatch::call(h, st, nodes, list, modes, pieces, pairs, input, r);
                 st = d.core;
                 if d.answer != 0 {
-                    return Went {
-                        answer: d.answer,
-                        done: n,
-                        core: st,
-                    };
+                    return stopped(d.answer, n, st);
                 }
                 at = next;
                 n += 1;
             }
             Item::Unknown => {
-                return Went {
-                    answer: 2,
-                    done: n,
-                    core: st,
-                };
+                return stopped(2, n, st);
             }
             Item::Bad => {
-                return Went {
-                    answer: 9,
-                    done: n,
-                    core: st,
-                };
+                return stopped(9, n, st);
             }
         }
     }
-    Went {
-        answer: 0,
-        done: n,
-        core: st,
-    }
+    stopped(0, n, st)
 }
 
 // The same on any state: the check comes first.
@@ -226,30 +198,7 @@ fn call_at(
     ensures { λ r. ⌜ result (r .answer) (full (now (h .exit)) (r .core) context (now (nodes .exit)) (now (list .exit)) (now (modes .exit)) (now (pieces .exit)) (now (pairs .exit))) ≡ def.single (now (input .entry)) (full (now (h .entry)) core context (now (nodes .entry)) (now (list .entry)) (now (modes .entry)) (now (pieces .entry)) (now (pairs .entry))) ⌝ }
 {
     match records::item_at(input, 0) {
-        Item::Call {
-            call: k,
-            a,
-            b,
-            c,
-            from,
-            count,
-            next: _,
-        } => dispatch::call(
-            h,
-            core,
-            nodes,
-            list,
-            modes,
-            pieces,
-            pairs,
-            input,
-            k,
-            a,
-            b,
-            c,
-            from,
-            count,
-        ),
+        Item::Call(r, _) => dispatch::call(h, core, nodes, list, modes, pieces, pairs, input, r),
         Item::Unknown => Done {
             answer: 2,
             core: core,

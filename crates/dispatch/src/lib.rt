@@ -9,11 +9,12 @@ ghost use Rattle.state.specs.Ready.{Ready};
 ghost use Rattle.standard.specs.Adoption.{adoption, misnested};
 ghost use Rattle.standard.specs.Formatting.{created};
 ghost use Rattle.standard.specs.Insertion.{inserted-element};
-ghost use Rattle.standard.specs.Step.{asked, middleStep, lowStep, highStep, step};
+ghost use Rattle.standard.specs.Step.{middleStep, lowStep, highStep, step};
 use adoption::agency;
 use builder::insertion;
 use formatting::create;
 use formatting::reconstruct;
+use records::Record;
 use stacks::close;
 use stacks::implied;
 use state::Core;
@@ -21,8 +22,7 @@ use state::Counts;
 use state::Done;
 use state::Flags;
 
-// The record, field by field. A function that is not compiled into its user is lent the record in memory; a copy keeps the run's own
-// record out of it.
+// `Core`, field by field. A function that is not compiled into its user is lent it in memory; a copy keeps the run's own out of it.
 fn apart(core: Core) -> Core
     ensures { λ r. ⌜ r ≡ core ⌝ }
 {
@@ -69,27 +69,25 @@ fn done_apart(d: Done) -> Done
     }
 }
 
+// 1
 fn element(
     h: &mut [u16],
     core: Core,
     nodes: &mut [u8],
     pairs: &mut [u8],
     input: &[u8],
-    ns: u16,
-    name: u16,
-    flags: u16,
-    from: usize,
-    count: u16,
+    r: Record,
 ) -> Done
     requires { ⌜ (0 < core .depth) × (core .depth ≤ 512) × (length (now h) ≡ 512) ⌝ }
     requires { ⌜ core .counts .pairs ≤ 4096 ⌝ }
-    ensures { λ r. ⌜ ((l m w : List ℕ) (x : Context) → result (r .answer) (full (now (h .exit)) (r .core) x (now (nodes .exit)) l m w (now (pairs .exit))) ≡ inserted-element (now (input .entry)) (full (now (h .entry)) core x (now (nodes .entry)) l m w (now (pairs .entry))) ns name flags from count) ⌝ }
+    ensures { λ d. ⌜ ((l m w : List ℕ) (x : Context) → result (d .answer) (full (now (h .exit)) (d .core) x (now (nodes .exit)) l m w (now (pairs .exit))) ≡ inserted-element (now (input .entry)) (full (now (h .entry)) core x (now (nodes .entry)) l m w (now (pairs .entry))) (r .a) (r .b) (r .c) (r .from) (r .count)) ⌝ }
 {
     let own = apart(core);
-    let d = insertion::element(h, own, nodes, pairs, input, ns, name, flags, from, count);
+    let d = insertion::element(h, own, nodes, pairs, input, r.a, r.b, r.c, r.from, r.count);
     done_apart(d)
 }
 
+// 4
 fn create(
     h: &mut [u16],
     core: Core,
@@ -97,13 +95,11 @@ fn create(
     pairs: &mut [u8],
     list: &mut [u16],
     input: &[u8],
-    name: u16,
-    from: usize,
-    count: u16,
+    r: Record,
 ) -> Done
     requires { ⌜ (0 < core .depth) × (core .depth ≤ 512) × (length (now h) ≡ 512) ⌝ }
     requires { ⌜ (core .counts .list ≤ length (now list)) × (core .counts .pairs ≤ 4096) ⌝ }
-    ensures { λ r. ⌜ ((m w : List ℕ) (x : Context) → result (r .answer) (full (now (h .exit)) (r .core) x (now (nodes .exit)) (now (list .exit)) m w (now (pairs .exit))) ≡ created (now (input .entry)) (full (now (h .entry)) core x (now (nodes .entry)) (now (list .entry)) m w (now (pairs .entry))) name from count) ⌝ }
+    ensures { λ d. ⌜ ((m w : List ℕ) (x : Context) → result (d .answer) (full (now (h .exit)) (d .core) x (now (nodes .exit)) (now (list .exit)) m w (now (pairs .exit))) ≡ created (now (input .entry)) (full (now (h .entry)) core x (now (nodes .entry)) (now (list .entry)) m w (now (pairs .entry))) (r .a) (r .from) (r .count)) ⌝ }
 {
     let own = apart(core);
     let d = create::create_formatting_element_for(
@@ -113,9 +109,9 @@ fn create(
         pairs,
         list,
         input,
-        name,
-        from,
-        count,
+        r.a,
+        r.from,
+        r.count,
     );
     done_apart(d)
 }
@@ -141,25 +137,18 @@ fn adopt_a(h: &mut [u16], core: Core, nodes: &mut [u8], list: &mut [u16]) -> Don
 }
 
 // Calls 8 to 13.
-fn middle(
-    h: &mut [u16],
-    core: Core,
-    nodes: &mut [u8],
-    list: &mut [u16],
-    call: u16,
-    a: u16,
-    b: u16,
-) -> Done
+fn middle(h: &mut [u16], core: Core, nodes: &mut [u8], list: &mut [u16], r: Record) -> Done
     requires { ⌜ Ready (now h) (now list) core ⌝ }
-    ensures { λ r. ⌜ ((c from count : ℕ) (m p q : List ℕ) (x : Context) → result (r .answer) (full (now (h .exit)) (r .core) x (now (nodes .exit)) (now (list .exit)) m p q) ≡ middleStep (asked call a b c from count) (full (now (h .entry)) core x (now (nodes .entry)) (now (list .entry)) m p q)) ⌝ }
+    ensures { λ d. ⌜ ((m p q : List ℕ) (x : Context) → result (d .answer) (full (now (h .exit)) (d .core) x (now (nodes .exit)) (now (list .exit)) m p q) ≡ middleStep r (full (now (h .entry)) core x (now (nodes .entry)) (now (list .entry)) m p q)) ⌝ }
 {
-    match call {
-        8 => adopt(h, core, nodes, list, a),
+    let k = r.call;
+    match k {
+        8 => adopt(h, core, nodes, list, r.a),
         9 => adopt_a(h, core, nodes, list),
-        10 => close::process_end_tag_in_body(h, core, nodes, a),
+        10 => close::process_end_tag_in_body(h, core, nodes, r.a),
         11 => close::close_p_element(h, core, nodes),
         12 => close::close_the_cell(h, core, nodes, list),
-        13 => implied::generate_implied_end_tags(h, core, nodes, a, b),
+        13 => implied::generate_implied_end_tags(h, core, nodes, r.a, r.b),
         _ => Done {
             answer: 2,
             core: core,
@@ -176,40 +165,37 @@ fn low(
     pieces: &mut [u8],
     pairs: &mut [u8],
     input: &[u8],
-    call: u16,
-    a: u16,
-    b: u16,
-    c: u16,
-    from: usize,
-    count: u16,
+    r: Record,
 ) -> Done
     requires { ⌜ Ready (now h) (now list) core ⌝ }
-    ensures { λ r. ⌜ ((m : List ℕ) (x : Context) → result (r .answer) (full (now (h .exit)) (r .core) x (now (nodes .exit)) (now (list .exit)) m (now (pieces .exit)) (now (pairs .exit))) ≡ lowStep (now (input .entry)) (asked call a b c from count) (full (now (h .entry)) core x (now (nodes .entry)) (now (list .entry)) m (now (pieces .entry)) (now (pairs .entry)))) ⌝ }
+    ensures { λ d. ⌜ ((m : List ℕ) (x : Context) → result (d .answer) (full (now (h .exit)) (d .core) x (now (nodes .exit)) (now (list .exit)) m (now (pieces .exit)) (now (pairs .exit))) ≡ lowStep (now (input .entry)) r (full (now (h .entry)) core x (now (nodes .entry)) (now (list .entry)) m (now (pieces .entry)) (now (pairs .entry)))) ⌝ }
 {
-    match call {
-        1 => element(h, core, nodes, pairs, input, a, b, c, from, count),
-        2 => insertion::text(h, core, nodes, pieces, a),
-        3 => insertion::comment(h, core, nodes, a, b),
-        4 => create(h, core, nodes, pairs, list, input, a, from, count),
+    let k = r.call;
+    match k {
+        1 => element(h, core, nodes, pairs, input, r),
+        2 => insertion::text(h, core, nodes, pieces, r.a),
+        3 => insertion::comment(h, core, nodes, r.a, r.b),
+        4 => create(h, core, nodes, pairs, list, input, r),
         5 => small::marker(core, list),
         6 => small::clear(core, list),
         7 => reconstruct::reconstruct_active_formatting_elements(h, core, nodes, list),
-        _ => middle(h, core, nodes, list, call, a, b),
+        _ => middle(h, core, nodes, list, r),
     }
 }
 
 // Calls 14 to 18.
-fn high(h: &mut [u16], core: Core, modes: &mut [u16], call: u16, a: u16) -> Done
+fn high(h: &mut [u16], core: Core, modes: &mut [u16], r: Record) -> Done
     requires { ⌜ core .depth ≤ length (now h) ⌝ }
     requires { ⌜ core .counts .modes ≤ length (now modes) ⌝ }
-    ensures { λ r. ⌜ ((b c from count : ℕ) (n l p q : List ℕ) (x : Context) → result (r .answer) (full (now (h .exit)) (r .core) x n l (now (modes .exit)) p q) ≡ highStep (asked call a b c from count) (full (now (h .entry)) core x n l (now (modes .entry)) p q)) ⌝ }
+    ensures { λ d. ⌜ ((n l p q : List ℕ) (x : Context) → result (d .answer) (full (now (h .exit)) (d .core) x n l (now (modes .exit)) p q) ≡ highStep r (full (now (h .entry)) core x n l (now (modes .entry)) p q)) ⌝ }
 {
-    match call {
+    let k = r.call;
+    match k {
         14 => small::pop(h, core),
-        15 => small::foster(core, a),
-        16 => small::push_mode(core, modes, a),
+        15 => small::foster(core, r.a),
+        16 => small::push_mode(core, modes, r.a),
         17 => small::pop_mode(core, modes),
-        18 => small::head(core, a),
+        18 => small::head(core, r.a),
         _ => Done {
             answer: 2,
             core: core,
@@ -226,33 +212,14 @@ pub fn call(
     pieces: &mut [u8],
     pairs: &mut [u8],
     input: &[u8],
-    call: u16,
-    a: u16,
-    b: u16,
-    c: u16,
-    from: usize,
-    count: u16,
+    r: Record,
 ) -> Done
     requires { ⌜ Ready (now h) (now list) core ⌝ }
     requires { ⌜ core .counts .modes ≤ length (now modes) ⌝ }
-    ensures { λ r. ⌜ ((x : Context) → result (r .answer) (full (now (h .exit)) (r .core) x (now (nodes .exit)) (now (list .exit)) (now (modes .exit)) (now (pieces .exit)) (now (pairs .exit))) ≡ step (now (input .entry)) (asked call a b c from count) (full (now (h .entry)) core x (now (nodes .entry)) (now (list .entry)) (now (modes .entry)) (now (pieces .entry)) (now (pairs .entry)))) ⌝ }
+    ensures { λ d. ⌜ ((x : Context) → result (d .answer) (full (now (h .exit)) (d .core) x (now (nodes .exit)) (now (list .exit)) (now (modes .exit)) (now (pieces .exit)) (now (pairs .exit))) ≡ step (now (input .entry)) r (full (now (h .entry)) core x (now (nodes .entry)) (now (list .entry)) (now (modes .entry)) (now (pieces .entry)) (now (pairs .entry)))) ⌝ }
 {
-    if call < 14 {
-        return low(
-            h,
-            core,
-            nodes,
-            list,
-            pieces,
-            pairs,
-            input,
-            call,
-            a,
-            b,
-            c,
-            from,
-            count,
-        );
+    if r.call < 14 {
+        return low(h, core, nodes, list, pieces, pairs, input, r);
     }
-    high(h, core, modes, call, a)
+    high(h, core, modes, r)
 }

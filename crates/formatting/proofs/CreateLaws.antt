@@ -6,7 +6,7 @@ use mathlib.Core.Bool.{Bool, true, false, cond, not, _&&_, _||_}
 use mathlib.Core.List.{List, []}
 use native.Mathlib.Omega.{arith}
 use native.Mathlib.Decide.{decLt}
-use lib.ListN.{length, take, drop, length-append, length-take, length-drop, take-append-drop}
+use lib.ListN.{length, length-append, length-take, length-drop}
 use lib.Dec.{T, eqb, ltb, leb}
 use mir.Facts.{and-yes}
 use borrow.Author.Tests.{lt-ltb, le-ltb, le-leb, lt-leb, not-false, ltb-true}
@@ -23,13 +23,13 @@ use Rattle.places.specs.declared.Found.{Found}
 use Rattle.places.specs.declared.Found.the-variants.{At, Nothing}
 use Rattle.state.specs.declared.Core.{Core}
 use Rattle.state.specs.declared.Context.{Context}
-use Rattle.state.specs.Fields.{setCounts, setList}
-use Rattle.state.specs.Full.{Full, Result, full, result, refused, done, withStack, withList, withNodes, withPairs}
+use Rattle.state.specs.Fields.{setList}
+use Rattle.state.specs.Full.{Full, Result, full, result, refused, done, withStack, withNodes, withPairs}
 use Rattle.standard.specs.Small.{room}
 use Rattle.standard.specs.Pairs.{pairsIn, fine}
 use Rattle.standard.specs.Insertion.{badTag, badPairs, newTag, elementIn, pushedIf, elementDone, elementRoom, inserted-element}
 use Rattle.standard.specs.Formatting.{sameTag, surplus, spared, listed, createdRoom, createdFor, badFormatting, created}
-use Rattle.small.proofs.Laws.{size-of}
+use Rattle.small.proofs.Laws.{size-of, room-of, list-put}
 use Rattle.builder.proofs.InsertionLaws.{fresh-is, nodes-few}
 use Rattle.builder.proofs.ElementLaws.{many-pairs, few-pairs}
 use Rattle.formatting.proofs.SurplusLaws.{surplus-lt}
@@ -60,10 +60,6 @@ leb-not a b = by (decLt b a)
 
 not-ltb : {a b d e : ℕ} → a ≡ b → d ≡ e → not (ltb a d) ≡ not (ltb b e)
 not-ltb p q = rw (p, q)
-
-room-of : (most : ℕ) (l : List ℕ) (k : ℕ) → room most (placesOf l k) ≡ min (length l) most
-unfolding room placesOf
-room-of most l k = ap (λ (n : ℕ). min n most) (sym (length-append (take k l) (drop k l)) ∙ ap length (take-append-drop k l))
 
 room-without : (most : ℕ) (l : List ℕ) (k i : ℕ) → k ≤ length l → i < k → room most (without (placesOf l k) i) ≡ min (length l) most
 unfolding room placesOf without
@@ -102,19 +98,15 @@ module _ (l : List ℕ) (k : ℕ) {o : Found} where
       omega (arith, left-room 256 le lt)
 
 module _ (s n l m p q : List ℕ) (x : Context) (c : Core) where
-  list-put : (l′ : List ℕ) (size : ℕ) (P : Places) {c′ : Core} → placesOf l′ size ≡ P → c′ ≡ setList c size → full s c′ x n l′ m p q ≡ withList (full s c x n l m p q) P
-  unfolding withList setList setCounts
-  list-put l′ size P ep ec = rw (ec, ep)
-
   pub enlisted-at : (l₁ l′ : List ℕ) (less size a : ℕ) {o : Found} {i : ℕ} {c′ : Core} → o ≡ At i → placesOf l₁ less ≡ without (placesOf l (c .counts .list)) i → placesOf l′ size ≡ pushed (placesOf l₁ less) a
       → c′ ≡ setList c size → full s c′ x n l′ m p q ≡ listed (full s c x n l m p q) (leftAt o (placesOf l (c .counts .list))) a
   unfolding listed leftAt
-  enlisted-at l₁ l′ less size a h er ep ec = list-put l′ size _ (ep ∙ ap (λ (y : Places). pushed y a) er) ec ∙ rw h
+  enlisted-at l₁ l′ less size a h er ep ec = list-put s n l m p q x c l′ size _ (ep ∙ ap (λ (y : Places). pushed y a) er) ec ∙ rw h
 
   pub enlisted-none : (l′ : List ℕ) (size a : ℕ) {o : Found} {c′ : Core} → o ≡ Nothing → placesOf l′ size ≡ pushed (placesOf l (c .counts .list)) a
       → c′ ≡ setList c size → full s c′ x n l′ m p q ≡ listed (full s c x n l m p q) (leftAt o (placesOf l (c .counts .list))) a
   unfolding listed leftAt
-  enlisted-none l′ size a h ep ec = list-put l′ size _ ep ec ∙ rw h
+  enlisted-none l′ size a h ep ec = list-put s n l m p q x c l′ size _ ep ec ∙ rw h
 
 -- ---- the element: as call 1 with push
 

@@ -17,15 +17,15 @@ use Rattle.places.specs.declared.Found.the-variants.{At, Nothing}
 use Rattle.places.proofs.Laws.{at-of, down-none, down-hit, down-on, lastWith-of}
 use Rattle.state.specs.declared.Core.{Core}
 use Rattle.state.specs.declared.Context.{Context}
-use Rattle.state.specs.Fields.{setDepth, setCounts, setNodes}
-use Rattle.state.specs.Full.{Full, full, result, done, withStack, withList, withNodes}
+use Rattle.state.specs.Fields.{setDepth, setCounts, setNodes, setList}
+use Rattle.state.specs.Full.{Full, full, result, done}
 use Rattle.standard.specs.Small.{MARKER}
 use Rattle.standard.specs.Place.{appropriatePlace, attached}
 use Rattle.standard.specs.Insertion.{usualPlace}
 use Rattle.standard.specs.Stack.{isFound}
 use Rattle.standard.specs.Formatting.{after, isMarkerOrOpen, firstLost, anewAt, anew, anewRoom, reconstructed}
 use Rattle.standard.specs.declared.Place.{Place}
-use Rattle.small.proofs.Laws.{size-of}
+use Rattle.small.proofs.Laws.{size-of, all-put, list-stays}
 use Rattle.builder.proofs.InsertionLaws.{usual-is, fresh-is}
 
 -- ---- the entries that are lost
@@ -73,19 +73,15 @@ module _ (s n l m p q : List ℕ) (x : Context) (c : Core) where
       → n₁ ≡ copied n a e → n′ ≡ attached n₁ r a → n′ ≡ attached (copied n a e) (usualPlace (full s c x n l m p q)) a
   copied-in e a h er en et = et ∙ rw (en, usual-is s l m p q x c n h er)
 
-  all-put : (s′ n′ l′ : List ℕ) (k size : ℕ) (P Q : Places) {c₁ c′ : Core} → c₁ ≡ setNodes c k → c′ ≡ setDepth c₁ size → placesOf s′ size ≡ P → placesOf l′ (c .counts .list) ≡ Q
-      → full s′ c′ x n′ l′ m p q ≡ withList (withStack (withNodes (full s c x n l m p q) n′ k) P) Q
-  unfolding withList withStack withNodes setDepth setNodes setCounts
-  all-put s′ n′ l′ k size P Q ec ed ep eq = rw (ed, ec, ep, eq)
-
   pub anew-done : (i size : ℕ) (s′ l′ : List ℕ) {a : ℕ} {n′ : List ℕ} {c₁ c′ : Core} → c .counts .nodes < 4096 → i < c .counts .list → a ≡ fresh (c .counts .nodes)
       → n′ ≡ attached (copied n a (getD l i 0)) (usualPlace (full s c x n l m p q)) a → placesOf s′ size ≡ pushed (placesOf s (c .depth)) a
       → placesOf l′ (c .counts .list) ≡ swapped (placesOf l (c .counts .list)) i a → c₁ ≡ setNodes c (c .counts .nodes + 1) → c′ ≡ setDepth c₁ size
       → full s′ c′ x n′ l′ m p q ≡ anewAt (full s c x n l m p q) i
-  unfolding anewAt
-  anew-done i size s′ l′ h lt ea en es el ec ed =
+  unfolding anewAt setDepth setNodes setCounts
+  anew-done i size s′ l′ {c′ = c′} h lt ea en es el ec ed =
       let d : fresh (c .counts .nodes) ≡ c .counts .nodes + 1 = fresh-is (c .counts .nodes) (omega arith) in
-      all-put s′ _ l′ _ size _ _ ec ed es el ∙ rw (en, at-of l (c .counts .list) i lt, ea, d)
+      let ee : c′ ≡ setList c′ (c .counts .list) = list-stays c′ (c .counts .list) (rw (ed, ec)) in
+      all-put s n l m p q x c s′ _ l′ _ size (c .counts .list) _ _ ec ed ee es el ∙ rw (en, at-of l (c .counts .list) i lt, ea, d)
 
 pub counts-after : (c : Core) (k size : ℕ) {c₁ c′ : Core} → size ≡ c .depth + 1 → c₁ ≡ setNodes c k → c′ ≡ setDepth c₁ size
     → (c′ .depth ≡ c .depth + 1) × (c′ .counts .list ≡ c .counts .list) × (c′ .counts .nodes ≡ k)

@@ -7,14 +7,14 @@ use mathlib.Core.Logic.{_⊎_, inl, inr}
 use mathlib.Core.Bool.{Bool, true, false, cond}
 use mathlib.Core.List.{List}
 use native.Mathlib.Omega.{arith}
-use Rattle.records.specs.declared.Item.{Item}
+use Rattle.records.specs.declared.Record.{Record}
 use Rattle.records.specs.declared.Item.the-variants as is
 use Rattle.records.specs.Record.{itemAt}
 use Rattle.state.specs.declared.State.{State}
 use Rattle.state.specs.Fields.{coreOf}
 use Rattle.state.specs.Full.{Full, Result, result, refused}
 use Rattle.standard.specs.Adoption.{adoption, misnested}
-use Rattle.standard.specs.Step.{Asked, asked, step, lowStep, middleStep}
+use Rattle.standard.specs.Step.{step, lowStep, middleStep}
 use Rattle.standard.specs.Run.{single, onSingle}
 use Rattle.kept.specs.Demands.{adoption-bound, misnested-bound}
 use Rattle.calls.specs.Public.{whole}
@@ -24,28 +24,28 @@ use Rattle.interface.specs.Public.{Public, call, Lent, Outcome, stateIn,
 abbrev Within : Full → Full → Type 0
 Within f g = (f .nodes .used ≤ g .nodes .used) × (g .nodes .used ≤ f .nodes .used + 32)
 
-adopts : (s : List ℕ) (a b c from count : ℕ) (f : Full) → step s (asked 8 a b c from count) f ≡ adoption f a
+adopts : (s : List ℕ) (r : Record) (f : Full) → r .call ≡ 8 → step s r f ≡ adoption f (r .a)
 unfolding step lowStep middleStep
-adopts s a b c from count f = refl
+adopts s r f e = rw e
 
-handles : (s : List ℕ) (a b c from count : ℕ) (f : Full) → step s (asked 9 a b c from count) f ≡ misnested f
+handles : (s : List ℕ) (r : Record) (f : Full) → r .call ≡ 9 → step s r f ≡ misnested f
 unfolding step lowStep middleStep
-handles s a b c from count f = refl
+handles s r f e = rw e
 
-step-within : (s : List ℕ) (k a b c from count : ℕ) (f : Full) → (k ≡ 8) ⊎ (k ≡ 9) → Within f (step s (asked k a b c from count) f .after)
-step-within s k a b c from count f (inl e) = rw (e, adopts s a b c from count f) (adoption-bound f a)
-step-within s k a b c from count f (inr e) = rw (e, handles s a b c from count f) (misnested-bound f)
+step-within : (s : List ℕ) (r : Record) (f : Full) → (r .call ≡ 8) ⊎ (r .call ≡ 9) → Within f (step s r f .after)
+step-within s r f (inl e) = rw (adopts s r f e) (adoption-bound f (r .a))
+step-within s r f (inr e) = rw (handles s r f e) (misnested-bound f)
 
-single-within : (s : List ℕ) (f : Full) {k a b c from count next : ℕ} → itemAt s 0 ≡ is.Call k a b c from count next → (k ≡ 8) ⊎ (k ≡ 9) → Within f (single s f .after)
+single-within : (s : List ℕ) (f : Full) {r : Record} {next : ℕ} → itemAt s 0 ≡ is.Call r next → (r .call ≡ 8) ⊎ (r .call ≡ 9) → Within f (single s f .after)
 unfolding single onSingle
-single-within s f {k} {a} {b} {c} {from} {count} e h = rw e (step-within s k a b c from count f h)
+single-within s f {r} e h = rw e (step-within s r f h)
 
 either-within : (s : List ℕ) (f : Full) (r : Result) (ok : Bool) → r ≡ cond ok (single s f) (refused 1 f) → Within f (single s f .after) → Within f (r .after)
 either-within s f r true e h = rw e h
 either-within s f r false e h = rw e (omega arith, omega arith)
 
-pub adoption-reported : (st : State) (m : Lent) (o : Outcome (call st)) → Promise (call st) m o → {k a b c from count next : ℕ} → itemAt (m .input) 0 ≡ is.Call k a b c from count next
-    → (k ≡ 8) ⊎ (k ≡ 9) → (o .gives .state .counts .nodes ≡ st .counts .nodes + o .gives .taken) × (o .gives .taken ≤ 32)
+pub adoption-reported : (st : State) (m : Lent) (o : Outcome (call st)) → Promise (call st) m o → {r : Record} {next : ℕ} → itemAt (m .input) 0 ≡ is.Call r next
+    → (r .call ≡ 8) ⊎ (r .call ≡ 9) → (o .gives .state .counts .nodes ≡ st .counts .nodes + o .gives .taken) × (o .gives .taken ≤ 32)
 unfolding whole coreOf
 adoption-reported st m o w e h =
     let t =

@@ -12,7 +12,7 @@ use Rattle.records.specs.declared.Item.the-variants as is
 use Rattle.records.specs.Record.{itemAt}
 use Rattle.state.specs.Full.{Full, Result, result, refused}
 use Rattle.sound.specs.State.{SoundFull}
-use Rattle.standard.specs.Step.{asked, step}
+use Rattle.standard.specs.Step.{step}
 use Rattle.standard.specs.Run.{onSingle, single}
 use Rattle.calls.specs.Public.{Checked}
 use Rattle.queries.specs.declared.Asked.{Asked}
@@ -40,7 +40,7 @@ allowed (by-record s) f o w = record { ok = w .0 .ok; says = w .0 .says; is = by
     same r e = joined (ap (λ (x : Result). x .answer) e) (w .1) (ap (λ (x : Result). x .after) e)
 
     by : (b : Bool) (i : Item) → result (o .answer) (o .after) ≡ cond b (onSingle i s f) (refused 1 f) → o ≡ cond b (effectAs (itemMeans i s) f) (effect 1 0 f)
-    by true (is.Call k a b c from count next) e = same (step s (asked k a b c from count) f) e
+    by true (is.Call r next) e = same (step s r f) e
     by true is.Unknown e = same (refused 2 f) e
     by true is.Bad e = same (refused 9 f) e
     by false i e = same (refused 1 f) e

@@ -5,16 +5,17 @@ use mathlib.Core.Path.{_≡_}
 use mathlib.Core.Logic.{_≢_}
 use mathlib.Core.Bool.{true}
 use mathlib.Core.List.{List}
+use Rattle.records.specs.declared.Record.{Record}
 use Rattle.state.specs.Full.{Full}
 use Rattle.sound.specs.State.{SoundFull}
-use Rattle.standard.specs.Step.{Asked, step}
+use Rattle.standard.specs.Step.{step}
 use Rattle.standard.specs.Refusals.{Refusals, applies, refusalsOf}
 use Rattle.kept.specs.Fair.{Answer}
 use Rattle.interface.specs.Questions.{Question, answerOf, refusalsOfQuestion}
 
 -- a call by number, 1 to 18 or any other, with the input that holds its record; or a question
 pub data Call : Type 0 where
-  numbered : List ℕ → Asked → Call
+  numbered : List ℕ → Record → Call
   question : Question → Call
 
 -- the answer, the value, which is 0 where a call has none, and the state after it

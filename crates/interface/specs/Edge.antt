@@ -9,7 +9,6 @@ use Rattle.records.specs.declared.Item.the-variants as is
 use Rattle.records.specs.Record.{itemAt}
 use Rattle.state.specs.Full.{Full, result, refused}
 use Rattle.sound.specs.State.{SoundFull}
-use Rattle.standard.specs.Step.{asked}
 use Rattle.standard.specs.Run.{single}
 use Rattle.calls.specs.Public.{Checked}
 use Rattle.queries.specs.declared.Asked.{Asked}
@@ -37,7 +36,7 @@ pub data Meant : Type 0 where
   broken : Meant
 
 unfoldable pub itemMeans : Item → List ℕ → Meant
-itemMeans (is.Call k a b c from count next) s = call (numbered s (asked k a b c from count))
+itemMeans (is.Call r next) s = call (numbered s r)
 itemMeans is.Unknown s = unknown
 itemMeans is.Bad s = broken
 

@@ -10,10 +10,11 @@ use Rattle.places.specs.Places as places
 use Rattle.state.specs.Full.{Full}
 use Rattle.sound.specs.State.{SoundFull}
 use Rattle.standard.specs.Adoption.{Inner, started, inner, adopted}
+use Rattle.adopted.proofs.Bound.{adopted-more}
 use Rattle.kept.specs.Loop.{InnerSound}
 use Rattle.kept.specs.Furthest.{Blocked, past-root, adopted-inner, inner-room, inner-clear, inner-plain}
-use Rattle.kept.specs.Finish.{Ready, finished-sound}
-use Rattle.kept.specs.Spent.{finished-used, finished-slots}
+use Rattle.kept.specs.Finish.{InnerDone, finished-sound}
+use Rattle.kept.specs.Spent.{finished-slots}
 
 -- what an adoption gives
 pub record Adopted (f g : Full) : Type 0 where
@@ -29,9 +30,9 @@ module _ (f : Full) (o : SoundFull f) (s j b : ℕ) (w : Blocked f s j b) (room 
   loop : InnerSound f (at (f .list .held) j) (at (f .stack .held) b) s looped (suc s) 3
   loop = adopted-inner f o w room
 
-  ready : Ready looped (at (f .list .held) j) (at (f .stack .held) b) (at (f .stack .held) (s - 1))
+  loop-done : InnerDone looped (at (f .list .held) j) (at (f .stack .held) b) (at (f .stack .held) (s - 1))
   unfolding places.at
-  ready =
+  loop-done =
       let e = loop in
       record {
         sound = e .sound;
@@ -57,7 +58,7 @@ module _ (f : Full) (o : SoundFull f) (s j b : ℕ) (w : Blocked f s j b) (room 
       let x = at (f .stack .held) b in
       let y = at (f .stack .held) (s - 1) in
       record {
-        sound = finished-sound looped n x y ready;
-        used = omega (arith, finished-used looped n x y, e .few);
+        sound = finished-sound looped n x y loop-done;
+        used = adopted-more f n s j b .most;
         slots = finished-slots looped n x y ∙ slots-same (f .nodes .mem) (looped .full .nodes .mem) (e .since .size);
       }

@@ -22,6 +22,7 @@ use Rattle.sound.specs.State.{SoundFull}
 use Rattle.standard.specs.Html.{isHtml, current}
 use Rattle.standard.specs.Stack.{inScope, shorter, badEndTag, ended, endTag}
 use Rattle.standard.specs.Adoption.{entryOf, furthestOf, Turn, blockAt, blocked, scopeAt, scoped, openAt, opened, entryAt, rounded, rounds, currentAt, agency, fewNodes, adoption, leaves, misnestedAt, misnested}
+use Rattle.formatting.proofs.CreateLaws.{formatting-plain}
 use Rattle.kept.specs.Keeps.{Keeps, either}
 use Rattle.kept.specs.Room.{room-nodes}
 use Rattle.kept.specs.Small.{cut-stack, same-sound}
@@ -29,7 +30,7 @@ use Rattle.kept.specs.Stack.{ended-sound}
 use Rattle.kept.specs.Usual.{is-html}
 use Rattle.kept.specs.Adopt.{adopted-sound}
 use Rattle.kept.specs.Leave.{without-stack, without-list}
-use Rattle.kept.specs.Scope.{place-found, entry-found, formatting-ends, formatting-html}
+use Rattle.kept.specs.Scope.{place-found, entry-found, formatting-ends}
 use Rattle.kept.specs.Furthest.{blocked-at}
 
 -- a node that is not the root is not the first of the stack
@@ -178,7 +179,7 @@ agency-sound f o h name g = by (isHtml (f .nodes .mem) top name) refl
         let z : f .stack .size - 1 ≡ 0 = omega arith in
         let a : field (f .nodes .mem) (at (f .stack .held) 0) NAME ≡ name = rw z at (is-html (f .nodes .mem) top name e .name) in
         let b : field (f .nodes .mem) (at (f .stack .held) 0) NAME ≡ tag.html = rw (o .sound .tree .stack .root) (o .sound .tree .top .name) in
-        absurd (eqb-false name tag.html (formatting-html name g) (sym a ∙ b))
+        absurd (eqb-false name tag.html (formatting-plain name g .no-html) (sym a ∙ b))
 
     pop : isHtml (f .nodes .mem) top name ≡ true → (r : Found) → SoundFull (currentAt r f name)
     pop e Nothing = let d = two e (decLt 1 (f .stack .size)) in cut-stack f o (f .stack .size - 1) (omega arith) (omega arith)

@@ -5,11 +5,12 @@ use Prim.Native.Nat.{ℕ, _+_}
 use mathlib.Core.Path.{_≡_, refl}
 use mathlib.Core.List.{List, [], _∷_, _++_}
 use lib.ListN.{length, getD}
+use Rattle.records.specs.Record.{asked}
 use Rattle.records.proofs.Numbers.{encoded, Stands}
 use Rattle.records.proofs.Records.{encodedAll, flat, recordOf, Low, Written, stands-rest, pair-there, item-call}
 use Rattle.state.specs.Full.{Full}
 use Rattle.standard.specs.Pairs.{pairsIn}
-use Rattle.standard.specs.Step.{asked, step}
+use Rattle.standard.specs.Step.{step}
 use Rattle.standard.specs.Run.{onSingle, single}
 
 -- the pairs that stand from i on are the ones that a call sees there

@@ -6,6 +6,7 @@ use mathlib.Core.Path.{_≡_}
 use mathlib.Core.Logic.{_≢_}
 use mathlib.Core.Bool.{true}
 use mathlib.Core.List.{List}
+use Rattle.records.specs.declared.Record.{Record}
 use Rattle.state.specs.declared.Context.{Context}
 use Rattle.state.specs.declared.State.{State}
 use Rattle.state.specs.Fields.{coreOf}
@@ -15,7 +16,7 @@ use Rattle.standard.specs.Adoption.{adoption, misnested}
 use Rattle.standard.specs.Begin.{beginAnswer, beginState, beginNodes, beginModes, begun, beginOf}
 use Rattle.standard.specs.Refusals.{applies, refusalsOf}
 use Rattle.standard.specs.Run.{runOf}
-use Rattle.standard.specs.Step.{Asked, step}
+use Rattle.standard.specs.Step.{step}
 use Rattle.adopted.proofs.Bound as bound
 use Rattle.kept.specs.Begin.{begin-sound}
 use Rattle.kept.specs.Exactly.{answer-applies, answer-lowest}
@@ -25,7 +26,7 @@ use Rattle.kept.specs.Step.{step-sound, runs-sound}
 
 -- ---- a call, in any state that the check passes
 
-pub record Settled (s : List ℕ) (r : Asked) (f : Full) : Type 0 where
+pub record Settled (s : List ℕ) (r : Record) (f : Full) : Type 0 where
   -- it answers 0 or 2 to 8
   pub answers : Answer 8 (step s r f .answer)
   -- a refusal's number applies
@@ -37,7 +38,7 @@ pub record Settled (s : List ℕ) (r : Asked) (f : Full) : Type 0 where
   -- and the state after it is sound
   pub sound : SoundFull (step s r f .after)
 
-pub never-sticks : (s : List ℕ) (r : Asked) (f : Full) → SoundFull f → Settled s r f
+pub never-sticks : (s : List ℕ) (r : Record) (f : Full) → SoundFull f → Settled s r f
 never-sticks s r f ok =
     record {
       answers = step-answers s r f;

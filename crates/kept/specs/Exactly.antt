@@ -18,6 +18,7 @@ use Rattle.arena.specs.Make.{nodesOf}
 use Rattle.places.specs.Places.{pushed, cut, placeOf}
 use Rattle.places.specs.declared.Found.{Found}
 use Rattle.places.specs.declared.Found.the-variants.{At, Nothing}
+use Rattle.records.specs.declared.Record.{Record}
 use Rattle.state.specs.Full.{Full, Result, refused, done, withStack, withList, withModes}
 use Rattle.standard.specs.Place.{textBefore}
 use Rattle.standard.specs.Pairs.{pairsIn}
@@ -26,7 +27,7 @@ use Rattle.standard.specs.Small.{MARKER, room, clearedAt, marked, cleared, popp
 use Rattle.standard.specs.Stack.{named, isCell, inScope, withoutP, withoutCell, isFound, ended, closedP, closedCell, implied}
 use Rattle.standard.specs.Formatting.{badFormatting, spared, listed, createdRoom, createdFor, created, anewRoom, reconstructed}
 use Rattle.standard.specs.Adoption.{entryOf, fewNodes, adoption, misnestedAt, misnested}
-use Rattle.standard.specs.Step.{Asked, unknown, middleStep, lowStep, highStep, step}
+use Rattle.standard.specs.Step.{unknown, middleStep, lowStep, highStep, step}
 use Rattle.standard.specs.Refusals.{Refusals, refusals, applies, least, lowest, noNodes, noPieces, noPairs, fullStack, fullPlaces, elementRefusals, textRefusals, commentRefusals, createRefusals, markerRefusals, reconstructRefusals, adoptionRefusals, misnestedRefusals, onlyUnknown, onlyNothing, closePRefusals, closeCellRefusals, modeRefusals, highRefusals, middleRefusals, lowRefusals, refusalsOf}
 
 -- ---- the lowest number that applies
@@ -153,7 +154,7 @@ none-free n = by (decLt n 1)
 
 -- ---- call by call
 
-module _ (s : List ℕ) (f : Full) (r : Asked) where
+module _ (s : List ℕ) (f : Full) (r : Record) where
   element-exact : inserted-element s f (r .a) (r .b) (r .c) (r .from) (r .count) .answer ≡ lowest (elementRefusals s f r)
   unfolding inserted-element elementRoom elementRefusals noNodes noPairs fullStack newTag
   element-exact =
@@ -226,7 +227,7 @@ pick : (b : Bool) (x y : Result) (u v : Refusals) → x .answer ≡ lowest u →
 pick true x y u v p q = p
 pick false x y u v p q = q
 
-module _ (s : List ℕ) (f : Full) (r : Asked) where
+module _ (s : List ℕ) (f : Full) (r : Record) where
   high-exact : highStep r f .answer ≡ lowest (highRefusals f r)
   unfolding highStep highRefusals popped fostered headed unmoded
   high-exact =

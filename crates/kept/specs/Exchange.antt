@@ -16,8 +16,9 @@ use Rattle.lent.specs.Mem.{field, KIND, ELEMENT}
 use Rattle.places.specs.Places.{Places, without, within, down, same, never, lastWith, placeOf, afterAt, exchanged, exchangedAt}
 use Rattle.places.specs.declared.Found.{Found}
 use Rattle.places.specs.declared.Found.the-variants.{At, Nothing}
+use Rattle.places.proofs.Laws.{down-last}
 use Rattle.sound.specs.Sound.{Open}
-use Rattle.kept.specs.Search.{down-at, down-past, after-none}
+use Rattle.kept.specs.Search.{down-past, after-none}
 use Rattle.kept.specs.Leave.{more-low, more-here, more-high}
 
 -- ---- where a node stands
@@ -38,7 +39,7 @@ found-at p n i h e = by (down (same n) never (p .held) (length (p .held))) refl
         let t = down-past (same n) (p .held) (length (p .held)) .none i (rw (g, after-none) (omega arith)) h in
         absurd (eqb-false (at (p .held) i) n t e)
     by (At j) g =
-        let t = down-at (same n) never (p .held) (length (p .held)) j g in
+        let t = down-last (same n) never (p .held) (length (p .held)) j g in
         record { place = j; found = g; below = t .below; is = eqb-true (at (p .held) j) n (t .has) }
 
 pub exchanged-is : (p : Places) (f x n j i : ℕ) → placeOf p f ≡ At j → placeOf (without p j) x ≡ At i → exchanged p f x n ≡ within (without p j) (i + 1) n

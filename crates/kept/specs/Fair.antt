@@ -16,6 +16,7 @@ use Rattle.arena.specs.declared.make.Tag.{Tag}
 use Rattle.places.specs.Places.{Places}
 use Rattle.places.specs.declared.Found.{Found}
 use Rattle.places.specs.declared.Found.the-variants.{At, Nothing}
+use Rattle.records.specs.declared.Record.{Record}
 use Rattle.state.specs.Full.{Full, Result, refused, done}
 use Rattle.standard.specs.declared.Place.{Place}
 use Rattle.standard.specs.Place.{textBefore}
@@ -24,7 +25,7 @@ use Rattle.standard.specs.Small.{room, marked, cleared, popped, fostered, heade
 use Rattle.standard.specs.Stack.{named, isCell, inScope, isFound, badImplied, implied, closedP, closedCell, badEndTag, ended}
 use Rattle.standard.specs.Formatting.{badFormatting, createdRoom, createdFor, created, anewRoom, reconstructed}
 use Rattle.standard.specs.Adoption.{entryOf, fewNodes, adoption, misnestedAt, misnested}
-use Rattle.standard.specs.Step.{Asked, unknown, middleStep, lowStep, highStep, step}
+use Rattle.standard.specs.Step.{unknown, middleStep, lowStep, highStep, step}
 
 -- the answer is 0, or from 2 to k
 pub record Answer (k : ℕ) (n : ℕ) : Type 0 where
@@ -163,7 +164,7 @@ module _ (f : Full) where
   unfolding unknown
   fair-unknown = no 2 (omega arith) (omega arith)
 
-  fair-middle : (r : Asked) → Fair f (middleStep r f)
+  fair-middle : (r : Record) → Fair f (middleStep r f)
   unfolding middleStep
   fair-middle r =
       fair-or (eqb (r .call) 8) (fair-adoption (r .a))
@@ -173,7 +174,7 @@ module _ (f : Full) where
       (fair-or (eqb (r .call) 12) fair-closed-cell
       (fair-or (eqb (r .call) 13) (fair-implied (r .a) (r .b)) fair-unknown)))))
 
-  fair-low : (s : List ℕ) (r : Asked) → Fair f (lowStep s r f)
+  fair-low : (s : List ℕ) (r : Record) → Fair f (lowStep s r f)
   unfolding lowStep
   fair-low s r =
       fair-or (eqb (r .call) 1) (fair-element s (r .a) (r .b) (r .c) (r .from) (r .count))
@@ -184,7 +185,7 @@ module _ (f : Full) where
       (fair-or (eqb (r .call) 6) fair-cleared
       (fair-or (eqb (r .call) 7) fair-reconstructed (fair-middle r)))))))
 
-  fair-high : (r : Asked) → Fair f (highStep r f)
+  fair-high : (r : Record) → Fair f (highStep r f)
   unfolding highStep
   fair-high r =
       fair-or (eqb (r .call) 14) fair-popped
@@ -193,7 +194,7 @@ module _ (f : Full) where
       (fair-or (eqb (r .call) 17) fair-unmoded
       (fair-or (eqb (r .call) 18) (fair-headed (r .a)) fair-unknown))))
 
-  pub step-fair : (s : List ℕ) (r : Asked) → Fair f (step s r f)
+  pub step-fair : (s : List ℕ) (r : Record) → Fair f (step s r f)
   unfolding step
   step-fair s r = fair-or (ltb (r .call) 14) (fair-low s r) (fair-high r)
 

@@ -240,7 +240,7 @@ module _ (f : Full) (s : SoundFull f) (a b j : ℕ) (az : 0 < a) (ad : suc a < f
 
 -- What the inner loop leaves. The formatting element fe is entry s of the stack; lastNode comes right after it, the common ancestor right
 -- before it, and the furthest block after it. No table and no template was opened after fe. The bookmark is a position in the list.
-pub record Ready (w : Inner) (fe block ancestor : ℕ) : Type 0 where
+pub record InnerDone (w : Inner) (fe block ancestor : ℕ) : Type 0 where
   pub sound : SoundFull (w .full)
   pub s : ℕ
   pub some : 0 < s
@@ -255,7 +255,7 @@ pub record Ready (w : Inner) (fe block ancestor : ℕ) : Type 0 where
   pub mark : w .mark ≤ w .full .list .size
   pub room : suc (w .full .nodes .used) < slots NODES (w .full .nodes .mem)
 
-pub finished-sound : (w : Inner) (fe block ancestor : ℕ) → Ready w fe block ancestor → SoundFull (finished w fe block ancestor)
+pub finished-sound : (w : Inner) (fe block ancestor : ℕ) → InnerDone w fe block ancestor → SoundFull (finished w fe block ancestor)
 unfolding places.at
 finished-sound w fe block ancestor r =
     let b = r .further in

@@ -55,14 +55,14 @@ entries-fresh {m} {l} {c} e h i b z = by (ℕ-discrete (at l i) MARKER)
     by (no d) = omega (arith, e .entry i b .used d)
 
 -- the list without an entry, or as it is
-record Fewer (m : List ℕ) (c : ℕ) (l p : Places) : Type 0 where
+record Rest (m : List ℕ) (c : ℕ) (l p : Places) : Type 0 where
   whole : Whole p
   entries : Entries m c (p .held) (p .size)
 
-fewer : {m : List ℕ} {c : ℕ} (l : Places) → Whole l → Entries m c (l .held) (l .size) → (o : Found) → ((i : ℕ) → o ≡ At i → i < l .size) → Fewer m c l (leftAt o l)
+rest : {m : List ℕ} {c : ℕ} (l : Places) → Whole l → Entries m c (l .held) (l .size) → (o : Found) → ((i : ℕ) → o ≡ At i → i < l .size) → Rest m c l (leftAt o l)
 unfolding leftAt
-fewer l w e Nothing h = record { whole = w; entries = e }
-fewer l w e (At i) h = record { whole = without-whole l w i (h i refl); entries = entries-without l w i (h i refl) e }
+rest l w e Nothing h = record { whole = w; entries = e }
+rest l w e (At i) h = record { whole = without-whole l w i (h i refl); entries = entries-without l w i (h i refl) e }
 
 -- ---- 4
 
@@ -75,7 +75,7 @@ module _ (f : Full) (s : SoundFull f) (t : Tag) (ps : List (ℕ × ℕ)) (html :
   listable h =
       let n = suc (f .nodes .used) in
       let r = plain-fields (f .nodes .mem) n (held-in NODES (f .nodes .mem) n h) t in
-      let g = fewer (f .list) (s .list) (s .sound .entries) o low in
+      let g = rest (f .list) (s .list) (s .sound .entries) o low in
       rw (add-one, nodes-one t single, add-one, element-plain (f .nodes .mem) n t single)
       (record {
         used = (omega arith, omega arith);
@@ -92,7 +92,7 @@ module _ (f : Full) (s : SoundFull f) (t : Tag) (ps : List (ℕ × ℕ)) (html :
       → SoundFull (listed (elementDone f t ps true) (leftAt o (f .list)) (f .nodes .used + 1))
   unfolding listed pushed
   created-done h few g =
-      let w = fewer (f .list) (rw same-list at (g .list)) (rw same-list at (g .sound .entries)) o low in
+      let w = rest (f .list) (rw same-list at (g .list)) (rw same-list at (g .sound .entries)) o low in
       rw add-one
       (list-sound (elementDone f t ps true) g (pushed (leftAt o (f .list)) (suc (f .nodes .used))) (pushed-whole _ (w .whole) _) (omega arith)
       (entries-more (w .entries) (w .whole .all) (listable h)))

@@ -22,6 +22,7 @@ use Rattle.arena.proofs.Ancestors.{kind-free}
 use Rattle.places.specs.Places as places
 use Rattle.places.specs.Places.{same, never, placeOf, lastWith}
 use Rattle.places.specs.declared.Found.the-variants.{At}
+use Rattle.places.proofs.Laws.{down-last}
 use Rattle.state.specs.Full.{Full}
 use Rattle.sound.specs.Sound.{MARKER}
 use Rattle.sound.specs.State.{SoundFull}
@@ -29,12 +30,12 @@ use Rattle.standard.specs.Html.{isHtml}
 use Rattle.standard.specs.Place.{isFosterStop}
 use Rattle.standard.specs.Stack.{isOf, named, inScope}
 use Rattle.standard.specs.Adoption.{Inner, entryOf, furthestOf, started, inner}
+use Rattle.formatting.proofs.CreateLaws.{formatting-plain}
 use Rattle.kept.specs.Keeps.{and-true, or-false}
-use Rattle.kept.specs.Search.{down-at}
 use Rattle.kept.specs.Same.{open-used}
 use Rattle.kept.specs.Attach.{late-free}
 use Rattle.kept.specs.Tree.{stack-once}
-use Rattle.kept.specs.Scope.{down-clear, special-at, scope-stop, formatting-html}
+use Rattle.kept.specs.Scope.{down-clear, special-at, scope-stop}
 use Rattle.kept.specs.Stands.{Misses}
 use Rattle.kept.specs.Loop.{InnerSound}
 use Rattle.kept.specs.Inner.{inner-sound}
@@ -57,9 +58,9 @@ blocked-at f o name j s k p a b c d =
     let fe = at (f .list .held) j in
     let h = f .stack .held in
     let n = length h in
-    let g = down-at (named (f .nodes .mem) name) (same MARKER) (f .list .held) (length (f .list .held)) j a in
-    let x = down-at (same fe) never h n s b in
-    let y = down-at (same fe) (isOf DefaultScope (f .nodes .mem)) h n k c in
+    let g = down-last (named (f .nodes .mem) name) (same MARKER) (f .list .held) (length (f .list .held)) j a in
+    let x = down-last (same fe) never h n s b in
+    let y = down-last (same fe) (isOf DefaultScope (f .nodes .mem)) h n k c in
     let t = special-at (f .nodes .mem) h (s + 1) (n - (s + 1)) p d in
     let w = o .stack .all in
     record {
@@ -108,7 +109,7 @@ module _ (f : Full) (o : SoundFull f) {s j p : ℕ} (b : Blocked f s j p) where
       by (no d) = omega arith
       by (yes d) =
           let e : at (f .list .held) j ≡ 2 = sym (rw d at (b .is)) ∙ o .sound .tree .stack .root in
-          let g = formatting-html (field (f .nodes .mem) 2 NAME) (rw e at (o .sound .entries .entry j (b .entry) .name fe-node)) in
+          let g = formatting-plain (field (f .nodes .mem) 2 NAME) (rw e at (o .sound .entries .entry j (b .entry) .name fe-node)) .no-html in
           absurd (eqb-false (field (f .nodes .mem) 2 NAME) tag.html g (o .sound .tree .top .name))
 
   block-used : (0 < at (f .stack .held) p) × (at (f .stack .held) p ≤ f .nodes .used)

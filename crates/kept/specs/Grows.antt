@@ -16,6 +16,7 @@ use Rattle.arena.specs.declared.make.Tag.{Tag}
 use Rattle.places.specs.Places.{at, same, placeOf}
 use Rattle.places.specs.declared.Found.{Found}
 use Rattle.places.specs.declared.Found.the-variants.{At, Nothing}
+use Rattle.records.specs.declared.Record.{Record}
 use Rattle.records.specs.declared.Item.{Item}
 use Rattle.records.specs.declared.Item.the-variants as is
 use Rattle.records.specs.Record.{itemAt}
@@ -28,7 +29,7 @@ use Rattle.standard.specs.Small.{room, marked, cleared, popped, fostered, heade
 use Rattle.standard.specs.Stack.{named, isCell, inScope, isFound, badImplied, implied, closedP, closedCell, badEndTag, ended}
 use Rattle.standard.specs.Formatting.{badFormatting, listed, createdRoom, createdFor, created, anewAt, anew, anewRoom, reconstructed}
 use Rattle.standard.specs.Adoption.{entryOf, furthestOf, Inner, leftStack, leftBoth, renewedIn, renewedAt, turnAt, turned, inner, finished, started, adopted, blockAt, blocked, scopeAt, scoped, openAt, opened, entryAt, rounded, rounds, currentAt, agency, fewNodes, adoption, leaves, misnestedAt, misnested}
-use Rattle.standard.specs.Step.{Asked, asked, unknown, middleStep, lowStep, highStep, step}
+use Rattle.standard.specs.Step.{unknown, middleStep, lowStep, highStep, step}
 use Rattle.standard.specs.Run.{ran, unlessRefused, onItem, runFor, runFrom, runOf, onSingle, single}
 
 -- as many nodes, pieces and pairs at least are used in g as in f
@@ -264,7 +265,7 @@ module _ (f : Full) where
   unfolding unknown
   unknown-grows = grows-same f
 
-  middle-grows : (r : Asked) → Grows f (middleStep r f .after)
+  middle-grows : (r : Record) → Grows f (middleStep r f .after)
   unfolding middleStep
   middle-grows r =
       done-or (eqb (r .call) 8) _ _ (adoption-grows f (r .a))
@@ -274,7 +275,7 @@ module _ (f : Full) where
       (done-or (eqb (r .call) 12) _ _ (closed-cell-grows f)
       (done-or (eqb (r .call) 13) _ _ (implied-grows f (r .a) (r .b)) unknown-grows)))))
 
-  low-grows : (s : List ℕ) (r : Asked) → Grows f (lowStep s r f .after)
+  low-grows : (s : List ℕ) (r : Record) → Grows f (lowStep s r f .after)
   unfolding lowStep
   low-grows s r =
       done-or (eqb (r .call) 1) _ _ (inserted-grows f s (r .a) (r .b) (r .c) (r .from) (r .count))
@@ -285,7 +286,7 @@ module _ (f : Full) where
       (done-or (eqb (r .call) 6) _ _ (cleared-grows f)
       (done-or (eqb (r .call) 7) _ _ (reconstructed-grows f) (middle-grows r)))))))
 
-  high-grows : (r : Asked) → Grows f (highStep r f .after)
+  high-grows : (r : Record) → Grows f (highStep r f .after)
   unfolding highStep
   high-grows r =
       done-or (eqb (r .call) 14) _ _ (popped-grows f)
@@ -295,7 +296,7 @@ module _ (f : Full) where
       (done-or (eqb (r .call) 18) _ _ (headed-grows f (r .a)) unknown-grows))))
 
   -- no call gives back a node, a piece or a pair
-  pub never-given-back : (s : List ℕ) (r : Asked) → Grows f (step s r f .after)
+  pub never-given-back : (s : List ℕ) (r : Record) → Grows f (step s r f .after)
   unfolding step
   never-given-back s r = done-or (ltb (r .call) 14) _ _ (low-grows s r) (high-grows r)
 
@@ -306,7 +307,7 @@ module _ (f : Full) where
   single-never-given-back s = by (itemAt s 0)
     where
       by : (i : Item) → Grows f (onSingle i s f .after)
-      by (is.Call k a b c from count next) = never-given-back s (asked k a b c from count)
+      by (is.Call r next) = never-given-back s r
       by is.Unknown = grows-same f
       by is.Bad = grows-same f
 
@@ -321,15 +322,13 @@ run-grows (suc k) s i n f = by (ltb i (length s)) (itemAt s i) (λ next g. run-g
     go next r w more false = w
 
     item : (j : Item) → ((next : ℕ) (g : Full) → Grows g (runFor k s next (n + 1) g .after))
-        → Grows f (onItem j n f (λ (x : Asked) (next : ℕ). unlessRefused (step s x f) n (runFor k s next (n + 1))) .after)
-    item (is.Call m a b c from count next) more =
-        let r = step s (asked m a b c from count) f in
-        go next r (never-given-back f s (asked m a b c from count)) (more next) (eqb (r .answer) 0)
+        → Grows f (onItem j n f (λ (r : Record) (next : ℕ). unlessRefused (step s r f) n (runFor k s next (n + 1))) .after)
+    item (is.Call r next) more = go next (step s r f) (never-given-back f s r) (more next) (eqb (step s r f .answer) 0)
     item is.Unknown more = grows-same f
     item is.Bad more = grows-same f
 
     by : (b : Bool) (j : Item) → ((next : ℕ) (g : Full) → Grows g (runFor k s next (n + 1) g .after))
-        → Grows f (cond b (onItem j n f (λ (x : Asked) (next : ℕ). unlessRefused (step s x f) n (runFor k s next (n + 1)))) (ran 0 n f) .after)
+        → Grows f (cond b (onItem j n f (λ (r : Record) (next : ℕ). unlessRefused (step s r f) n (runFor k s next (n + 1)))) (ran 0 n f) .after)
     by true j more = item j more
     by false j more = grows-same f
 

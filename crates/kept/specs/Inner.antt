@@ -15,9 +15,9 @@ use Rattle.places.specs.Places as places
 use Rattle.places.specs.Places.{placeOf, lastWith, same, never}
 use Rattle.places.specs.declared.Found.{Found}
 use Rattle.places.specs.declared.Found.the-variants.{At, Nothing}
+use Rattle.places.proofs.Laws.{down-last}
 use Rattle.state.specs.Full.{Full, withStack}
 use Rattle.standard.specs.Adoption.{Inner, innerAt, gone, leftStack, leftBoth, renewedAt, turnAt, turned, inner}
-use Rattle.kept.specs.Search.{down-at}
 use Rattle.kept.specs.Loop.{InnerSound, other-fe, left-stack, left-list, renewed-inner}
 
 -- ---- one turn, and the loop
@@ -55,7 +55,7 @@ module _ {b : Full} {fe block s : ℕ} (z : 0 < s) (room : b .nodes .used + 4 < 
       by Nothing e = left-stack z l o
       by (At j) e =
           let n = at (w .full .stack .held) i in
-          let g = down-at (same n) never (w .full .list .held) (length (w .full .list .held)) j e in
+          let g = down-last (same n) never (w .full .list .held) (length (w .full .list .held)) j e in
           turned-listed l o j (omega (arith, g .below, o .sound .list .all)) (eqb-true (at (w .full .list .held) j) n (g .has))
 
   -- the formatting element is met, right before lastNode

@@ -12,6 +12,7 @@ use lib.ListN.{length}
 use lib.Dec.{eqb, ltb}
 use borrow.Author.Tests.{ltb-false, eqb-true, eqb-false, ne-eqb}
 use Rattle.arena.specs.Room.{freeNodes}
+use Rattle.records.specs.declared.Record.{Record}
 use Rattle.records.specs.declared.Item.{Item}
 use Rattle.records.specs.declared.Item.the-variants as is
 use Rattle.records.specs.Record.{itemAt}
@@ -19,7 +20,7 @@ use Rattle.records.proofs.Past.{item-past}
 use Rattle.state.specs.declared.State.{State}
 use Rattle.state.specs.declared.Context.{Context}
 use Rattle.state.specs.Full.{Full}
-use Rattle.standard.specs.Step.{Asked, asked, step}
+use Rattle.standard.specs.Step.{step}
 use Rattle.standard.specs.Begin.{badContext, firstModes, beginAnswer, begun, beginOf}
 use Rattle.standard.specs.Run.{Ran, ran, unlessRefused, onItem, runFor, runFrom, runOf, onSingle, single}
 use Rattle.kept.specs.Fair.{Answer, step-fair}
@@ -27,11 +28,11 @@ use Rattle.kept.specs.Fair.{Answer, step-fair}
 -- ---- one call
 
 -- a call answers 0, 2, 3, 4, 5, 6, 7 or 8
-pub step-answers : (s : List ℕ) (r : Asked) (f : Full) → Answer 8 (step s r f .answer)
+pub step-answers : (s : List ℕ) (r : Record) (f : Full) → Answer 8 (step s r f .answer)
 step-answers s r f = step-fair f s r .answers
 
 -- a call that is refused changes nothing
-pub step-refused : (s : List ℕ) (r : Asked) (f : Full) → step s r f .answer ≢ 0 → step s r f .after ≡ f
+pub step-refused : (s : List ℕ) (r : Record) (f : Full) → step s r f .answer ≢ 0 → step s r f .after ≡ f
 step-refused s r f = step-fair f s r .keeps
 
 -- ---- a record alone
@@ -46,7 +47,7 @@ unfolding single onSingle
 single-answers s f = by (itemAt s 0)
   where
     by : (i : Item) → Answer 9 (onSingle i s f .answer)
-    by (is.Call k a b c from count next) = wider _ (step-answers s (asked k a b c from count) f .one)
+    by (is.Call r next) = wider _ (step-answers s r f .one)
     by is.Unknown = record { one = inr (omega arith, omega arith) }
     by is.Bad = record { one = inr (omega arith, omega arith) }
 
@@ -56,7 +57,7 @@ unfolding single onSingle
 single-refused s f = by (itemAt s 0)
   where
     by : (i : Item) → onSingle i s f .answer ≢ 0 → onSingle i s f .after ≡ f
-    by (is.Call k a b c from count next) d = step-refused s (asked k a b c from count) f d
+    by (is.Call r next) d = step-refused s r f d
     by is.Unknown d = refl
     by is.Bad d = refl
 
@@ -65,8 +66,8 @@ single-refused s f = by (itemAt s 0)
 -- from byte i and the state f on, n records are done one after the other: they end at byte j, in the state g
 pub data Took (s : List ℕ) : ℕ → Full → ℕ → ℕ → Full → Type 0 where
   none : {i : ℕ} {f : Full} → Took s i f 0 i f
-  more : {i n j k a b c from count next : ℕ} {f g : Full} → itemAt s i ≡ is.Call k a b c from count next
-      → step s (asked k a b c from count) f .answer ≡ 0 → Took s next (step s (asked k a b c from count) f .after) n j g → Took s i f (suc n) j g
+  more : {i n j next : ℕ} {r : Record} {f g : Full} → itemAt s i ≡ is.Call r next → step s r f .answer ≡ 0 → Took s next (step s r f .after) n j g
+      → Took s i f (suc n) j g
 
 -- a run stops at byte j, in the state g, with this answer: at the end of the input with 0, at a call that is not known with 2, at a
 -- record that is cut short or badly written with 9, and at a call that is refused with its answer
@@ -74,8 +75,7 @@ pub data Stops (s : List ℕ) (j : ℕ) (g : Full) : ℕ → Type 0 where
   over : length s ≤ j → Stops s j g 0
   unknown : itemAt s j ≡ is.Unknown → Stops s j g 2
   broken : itemAt s j ≡ is.Bad → Stops s j g 9
-  denied : {k a b c from count next x : ℕ} → itemAt s j ≡ is.Call k a b c from count next → step s (asked k a b c from count) g .answer ≡ x → x ≢ 0
-      → Stops s j g x
+  denied : {r : Record} {next x : ℕ} → itemAt s j ≡ is.Call r next → step s r g .answer ≡ x → x ≢ 0 → Stops s j g x
 
 -- what a run from byte i and the state f on has done, n records being done before it
 pub record Ends (s : List ℕ) (i n : ℕ) (f : Full) (r : Ran) : Type 0 where
@@ -91,13 +91,11 @@ run-ends zero s i n f h = record { count = 0; byte = i; total = omega arith; too
 run-ends (suc k) s i n f h =
     by (ltb i (length s)) refl (itemAt s i) refl (λ next g le. run-ends k s next (n + 1) g le)
   where
-    go : (m a b c from count next : ℕ) → itemAt s i ≡ is.Call m a b c from count next
-        → ((g : Full) → Ends s next (n + 1) g (runFor k s next (n + 1) g)) → (b′ : Bool) → eqb (step s (asked m a b c from count) f .answer) 0 ≡ b′
-        → Ends s i n f
-        (cond b′ (runFor k s next (n + 1) (step s (asked m a b c from count) f .after))
-        (ran (step s (asked m a b c from count) f .answer) n (step s (asked m a b c from count) f .after)))
-    go m a b c from count next e rest true t =
-        let w = rest (step s (asked m a b c from count) f .after) in
+    go : (r : Record) (next : ℕ) → itemAt s i ≡ is.Call r next → ((g : Full) → Ends s next (n + 1) g (runFor k s next (n + 1) g)) → (b : Bool)
+        → eqb (step s r f .answer) 0 ≡ b
+        → Ends s i n f (cond b (runFor k s next (n + 1) (step s r f .after)) (ran (step s r f .answer) n (step s r f .after)))
+    go r next e rest true t =
+        let w = rest (step s r f .after) in
         record {
           count = suc (w .count);
           byte = w .byte;
@@ -105,22 +103,22 @@ run-ends (suc k) s i n f h =
           took = more e (eqb-true _ _ t) (w .took);
           stops = w .stops;
         }
-    go m a b c from count next e rest false t =
+    go r next e rest false t =
         let d = eqb-false _ _ t in
-        let same = step-refused s (asked m a b c from count) f d in
+        let same = step-refused s r f d in
         record { count = 0; byte = i; total = omega arith; took = rw same none; stops = rw same (denied e refl d) }
 
     item : (j : Item) → itemAt s i ≡ j → ((next : ℕ) (g : Full) → length s ≤ next + k → Ends s next (n + 1) g (runFor k s next (n + 1) g))
-        → Ends s i n f (onItem j n f (λ (x : Asked) (next : ℕ). unlessRefused (step s x f) n (runFor k s next (n + 1))))
-    item (is.Call m a b c from count next) e rest =
+        → Ends s i n f (onItem j n f (λ (r : Record) (next : ℕ). unlessRefused (step s r f) n (runFor k s next (n + 1))))
+    item (is.Call r next) e rest =
         let p = item-past s i e in
-        go m a b c from count next e (λ g. rest next g (omega arith)) (eqb (step s (asked m a b c from count) f .answer) 0) refl
+        go r next e (λ g. rest next g (omega arith)) (eqb (step s r f .answer) 0) refl
     item is.Unknown e rest = record { count = 0; byte = i; total = omega arith; took = none; stops = unknown e }
     item is.Bad e rest = record { count = 0; byte = i; total = omega arith; took = none; stops = broken e }
 
     by : (b : Bool) → ltb i (length s) ≡ b → (j : Item) → itemAt s i ≡ j
         → ((next : ℕ) (g : Full) → length s ≤ next + k → Ends s next (n + 1) g (runFor k s next (n + 1) g))
-        → Ends s i n f (cond b (onItem j n f (λ (x : Asked) (next : ℕ). unlessRefused (step s x f) n (runFor k s next (n + 1)))) (ran 0 n f))
+        → Ends s i n f (cond b (onItem j n f (λ (r : Record) (next : ℕ). unlessRefused (step s r f) n (runFor k s next (n + 1)))) (ran 0 n f))
     by true t j e rest = item j e rest
     by false t j e rest = record { count = 0; byte = i; total = omega arith; took = none; stops = over (ltb-false i (length s) t) }
 
@@ -140,7 +138,7 @@ run-answers s f = by (run-done s f .2)
     by (over h) = record { one = inl refl }
     by (unknown e) = record { one = inr (omega arith, omega arith) }
     by (broken e) = record { one = inr (omega arith, omega arith) }
-    by {g = g} (denied {k} {a} {b} {c} {from} {count} {next} {x} e t d) = rw t at (wider _ (step-answers s (asked k a b c from count) g .one))
+    by {g = g} (denied {r} {next} {x} e t d) = rw t at (wider _ (step-answers s r g .one))
 
 -- a run that answers 0 has done records up to the end of its input
 pub run-over : (s : List ℕ) (f : Full) → runOf s f .answer ≡ 0 → (j : ℕ) × (length s ≤ j) × Took s 0 f (runOf s f .done) j (runOf s f .after)

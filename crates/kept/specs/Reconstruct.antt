@@ -17,23 +17,22 @@ use Rattle.theory.specs.Natural.{Natural}
 use Rattle.lent.specs.Mem.{NODES, slots, field, up, KIND, SPACE, NAME, ELEMENT}
 use Rattle.arena.specs.Room.{freeNodes}
 use Rattle.arena.specs.Make.{copied, tagOf}
-use Rattle.arena.proofs.Lengths.{slots-same, length-appended, length-inserted}
+use Rattle.arena.proofs.Lengths.{slots-same}
 use Rattle.arena.proofs.Ancestors.{kind-free}
 use Rattle.places.specs.Places.{Places, Whole, at, pushed, swapped, lastWith, down, never, placeOf}
 use Rattle.places.specs.declared.Found.{Found}
 use Rattle.places.specs.declared.Found.the-variants.{At, Nothing}
+use Rattle.places.proofs.Laws.{down-last}
 use Rattle.state.specs.Full.{Full, withNodes, withStack, withList}
 use Rattle.sound.specs.Sound.{Entries, MARKER}
 use Rattle.sound.specs.State.{SoundFull}
-use Rattle.standard.specs.declared.Place.{Place}
-use Rattle.standard.specs.declared.Place.the-variants.{End, Before}
 use Rattle.standard.specs.Place.{attached}
 use Rattle.standard.specs.Insertion.{usualPlace}
 use Rattle.standard.specs.Stack.{isFound}
 use Rattle.standard.specs.Formatting.{after, isMarkerOrOpen, firstLost, anewAt, anew, anewRoom, reconstructed}
 use Rattle.kept.specs.Room.{room-nodes}
 use Rattle.kept.specs.Keeps.{Keeps, either, or-false}
-use Rattle.kept.specs.Search.{after-none, after-at, down-at, down-past}
+use Rattle.kept.specs.Search.{after-none, after-at, down-past}
 use Rattle.kept.specs.Parts.{nodes-sound, opened-sound, list-sound}
 use Rattle.kept.specs.Pieces.{words-other}
 use Rattle.kept.specs.Attach.{attached-field, late-free}
@@ -42,11 +41,7 @@ use Rattle.kept.specs.Grow.{made-old, old-texts, grown-sound, grown-orde
 use Rattle.kept.specs.Copy.{plain-is, plain-has, plain-kind, entry-copyable}
 use Rattle.kept.specs.Entries.{New, entries-swapped, swapped-whole}
 use Rattle.kept.specs.Formatting.{entries-fresh}
-
-length-attached : (m : List ℕ) (w : Place) (n : ℕ) → length (attached m w n) ≡ length m
-unfolding attached
-length-attached m (End p) n = length-appended m (p .0) n
-length-attached m (Before s) n = length-inserted m (s .0) n
+use Rattle.kept.specs.Spent.{length-attached}
 
 -- the list and how much is lent, after a copy
 module _ (f : Full) (i : ℕ) where
@@ -169,7 +164,7 @@ module _ (f : Full) (s : SoundFull f) where
     where
       by : (o : Found) → down (isMarkerOrOpen (f .stack)) never (f .list .held) (length (f .list .held)) ≡ o → after o ≤ f .list .size
       by Nothing e = omega (arith, after-none)
-      by (At i) e = omega (arith, after-at i, down-at (isMarkerOrOpen (f .stack)) never (f .list .held) (length (f .list .held)) i e .below, s .list .all)
+      by (At i) e = omega (arith, after-at i, down-last (isMarkerOrOpen (f .stack)) never (f .list .held) (length (f .list .held)) i e .below, s .list .all)
 
   anew-room : (i k : ℕ) → Lost f i → i + k ≤ f .list .size → Keeps (anewRoom f i k)
   unfolding anewRoom anew

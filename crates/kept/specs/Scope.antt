@@ -3,45 +3,37 @@
 -- Assumes nothing.
 use Prim.Native.Nat.{ℕ, zero, suc, _+_, _≤_, _<_}
 use mathlib.Core.Path.{_≡_, refl, sym, _∙_}
-use mathlib.Core.Bool.{Bool, true, false, cond, not, _&&_, _||_}
-use mathlib.Core.List.{List, [], _∷_}
+use mathlib.Core.Bool.{Bool, true, false, cond}
+use mathlib.Core.List.{List}
 use native.Mathlib.Omega.{arith}
 use native.Mathlib.Decide.{ℕ-discrete}
 use lib.ListN.{length, getD}
-use lib.Dec.{eqb}
 use borrow.Author.Tests.{eqb-true}
 use Rattle.names.specs.Space as space
 use Rattle.names.specs.Tag as tag
-use Rattle.names.specs.Numbers.{isName, inTable}
-use Rattle.names.specs.Sets.{member, isIn, formatting, Formatting, Special, DefaultScope, defaultScope}
+use Rattle.names.specs.Sets.{isIn, Formatting, Special, DefaultScope, defaultScope}
 use Rattle.places.specs.Places.{Places, down, same, never, lastWith, placeOf}
 use Rattle.places.specs.declared.Found.the-variants.{At, Nothing}
+use Rattle.places.proofs.Laws.{never-at, at-at, down-last}
 use Rattle.standard.specs.Html.{isHtml}
 use Rattle.standard.specs.Small.{MARKER}
 use Rattle.standard.specs.Place.{isFosterStop}
 use Rattle.standard.specs.Stack.{isOf, named, badEndTag}
 use Rattle.standard.specs.Adoption.{entryOf, specialFrom}
-use Rattle.kept.specs.Keeps.{and-true}
-use Rattle.kept.specs.Search.{down-at}
+use Rattle.formatting.proofs.CreateLaws.{formatting-plain}
 use Rattle.kept.specs.Usual.{is-html}
-
-pub never-at : {A : Type 0} (i : ℕ) → Nothing ≡ At i → A
-never-at i e = absurd (let z : _≡_ {A = ℕ} 0 1 = cc in omega arith)
-
-pub at-at : (k i : ℕ) → At k ≡ At i → k ≡ i
-at-at k i e = cc
 
 -- ---- the search for a node, and for an entry of the list by its name
 
 pub place-found : (p : Places) (n i : ℕ) → placeOf p n ≡ At i → (i < length (p .held)) × (getD (p .held) i 0 ≡ n)
 unfolding placeOf lastWith
 place-found p n i e =
-    let t = down-at (same n) never (p .held) (length (p .held)) i e in
+    let t = down-last (same n) never (p .held) (length (p .held)) i e in
     (t .below, eqb-true (getD (p .held) i 0) n (t .has))
 
 pub entry-found : (m : List ℕ) (p : Places) (name i : ℕ) → entryOf m p name ≡ At i → i < length (p .held)
 unfolding entryOf lastWith
-entry-found m p name i e = down-at (named m name) (same MARKER) (p .held) (length (p .held)) i e .below
+entry-found m p name i e = down-last (named m name) (same MARKER) (p .held) (length (p .held)) i e .below
 
 -- ---- the search for an entry in scope
 
@@ -53,7 +45,7 @@ down-clear hit stop h (suc k) i e j a b = by (hit (getD h k 0)) (stop (getD h k 
     by : (p q : Bool) → stop (getD h k 0) ≡ q → cond p (At k) (cond q Nothing (down hit stop h k)) ≡ At i
         → (down hit stop h k ≡ At i → (j : ℕ) → i < j → j < k → stop (getD h j 0) ≡ false) → stop (getD h j 0) ≡ false
     by true q s g r = let z : k ≡ i = at-at k i g in absurd (omega arith)
-    by false true s g r = never-at i g
+    by false true s g r = absurd (never-at i g)
     by false false s g r = last (ℕ-discrete j k)
       where
         last : Dec (j ≡ k) → stop (getD h j 0) ≡ false
@@ -70,7 +62,7 @@ pub record Block (m xs : List ℕ) (k n b : ℕ) : Type 0 where
 
 pub special-at : (m xs : List ℕ) (k n b : ℕ) → specialFrom m xs k n ≡ At b → Block m xs k n b
 unfolding specialFrom
-special-at m xs k zero b e = never-at b e
+special-at m xs k zero b e = absurd (never-at b e)
 special-at m xs k (suc n) b e = by (isOf Special m (getD xs k 0)) refl e (special-at m xs (k + 1) n b)
   where
     by : (p : Bool) → isOf Special m (getD xs k 0) ≡ p → cond p (At k) (specialFrom m xs (k + 1) n) ≡ At b
@@ -99,33 +91,8 @@ pub scope-plain : (m : List ℕ) (n : ℕ) → isOf DefaultScope m n ≡ false �
 unfolding defaultScope
 scope-plain m n e = scope-html m n tag.template refl e
 
--- what is so of each name of a list is so of a name in it
-abbrev every : (ℕ → Bool) → List ℕ → Bool
-every p [] = true
-every p (x ∷ xs) = p x && every p xs
-
-every-in : (p : ℕ → Bool) (xs : List ℕ) (n : ℕ) → every p xs ≡ true → member n xs ≡ true → p n ≡ true
-every-in p [] n h e = absurd (let z : _≡_ {A = ℕ} 0 1 = cc in omega arith)
-every-in p (x ∷ xs) n h e = by (eqb n x) refl e (every-in p xs n (and-true (p x) (every p xs) h .1))
-  where
-    by : (b : Bool) → eqb n x ≡ b → (b || member n xs) ≡ true → (member n xs ≡ true → p n ≡ true) → p n ≡ true
-    by true g q r = rw (eqb-true n x g) (and-true (p x) (every p xs) h .0)
-    by false g q r = r q
-
 pub formatting-ends : (name : ℕ) → isIn Formatting space.html name ≡ true → badEndTag name ≡ false
-unfolding formatting badEndTag isName inTable
+unfolding badEndTag
 formatting-ends name e =
-    by (badEndTag name) (every-in (λ n. not (badEndTag n)) formatting name refl e)
-  where
-    by : (b : Bool) → not b ≡ true → b ≡ false
-    by true h = sym h
-    by false h = refl
-
--- and html is none
-pub formatting-html : (name : ℕ) → isIn Formatting space.html name ≡ true → eqb name tag.html ≡ false
-unfolding formatting
-formatting-html name e = by (eqb name tag.html) refl
-  where
-    by : (b : Bool) → eqb name tag.html ≡ b → b ≡ false
-    by true h = sym e ∙ rw (eqb-true name tag.html h)
-    by false h = refl
+    let k = formatting-plain name e in
+    rw (k .known, k .no-html)

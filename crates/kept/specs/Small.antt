@@ -10,11 +10,11 @@ use borrow.Author.Tests.{ltb-true, ltb-false, eqb-false}
 use Rattle.places.specs.Places.{pushed, cut, placeOf, lastWith, down, same, never}
 use Rattle.places.specs.declared.Found.{Found}
 use Rattle.places.specs.declared.Found.the-variants.{At, Nothing}
+use Rattle.places.proofs.Laws.{down-last}
 use Rattle.state.specs.Full.{Full, refused, withStack, withList}
 use Rattle.sound.specs.State.{SoundFull}
 use Rattle.standard.specs.Small.{room, marked, clearedAt, cleared, popped, fostered, headed, moded, unmoded, MARKER}
 use Rattle.kept.specs.Keeps.{Keeps, either, or-false}
-use Rattle.kept.specs.Search.{down-at}
 use Rattle.kept.specs.Parts.{stack-sound, list-sound, modes-sound, flags-sound}
 use Rattle.kept.specs.Front.{front-take, pushed-whole, cut-whole, cut-total, order-front, open-front, entries-front, modes-front, entries-marker, modes-more}
 
@@ -45,7 +45,7 @@ module _ (f : Full) (s : SoundFull f) where
     where
       by : (x : Found) → down (same MARKER) never (f .list .held) (length (f .list .held)) ≡ x → SoundFull (withList f (clearedAt x (f .list)))
       by Nothing e = cut-list 0 (omega arith)
-      by (At i) e = cut-list i (omega (arith, down-at (same MARKER) never (f .list .held) (length (f .list .held)) i e .below, s .list .all))
+      by (At i) e = cut-list i (omega (arith, down-last (same MARKER) never (f .list .held) (length (f .list .held)) i e .below, s .list .all))
 
   -- a stack cut past its first entry
   pub cut-stack : (i : ℕ) → 0 < i → i ≤ f .stack .size → SoundFull (withStack f (cut (f .stack) i))

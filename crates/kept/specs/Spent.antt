@@ -1,7 +1,7 @@
--- What 4.14 to 4.19 of the adoption agency take: one node, and no more bytes than are lent.
+-- 4.14 to 4.19 of the adoption agency take no more bytes than are lent.
 -- Assumes nothing.
 use Prim.Native.Nat.{ℕ, _+_}
-use mathlib.Core.Path.{_≡_, refl, _∙_}
+use mathlib.Core.Path.{_≡_, _∙_}
 use mathlib.Core.List.{List}
 use lib.ListN.{length}
 use Rattle.lent.specs.Mem.{NODES, slots}
@@ -29,10 +29,6 @@ unfolding rehung
 length-rehung m n fe b = length-appended (moved (copied m n fe) b n) b n ∙ length-moved (copied m n fe) b n ∙ length-copied m n fe
 
 module _ (w : Inner) (fe block ancestor : ℕ) where
-  pub finished-used : finished w fe block ancestor .nodes .used ≡ w .full .nodes .used + 1
-  unfolding finished withList withStack withNodes
-  finished-used = refl
-
   pub finished-slots : slots NODES (finished w fe block ancestor .nodes .mem) ≡ slots NODES (w .full .nodes .mem)
   unfolding finished placedAt withList withStack withNodes
   finished-slots =

@@ -11,6 +11,7 @@ use lib.Seq.{getD-take}
 use lib.Dec.{eqb, ltb}
 use Rattle.places.specs.Places.{placesOf}
 use Rattle.places.proofs.Laws.{of-whole}
+use Rattle.records.specs.declared.Record.{Record}
 use Rattle.records.specs.declared.Item.{Item}
 use Rattle.records.specs.declared.Item.the-variants as is
 use Rattle.records.specs.Record.{itemAt}
@@ -20,7 +21,7 @@ use Rattle.state.specs.Full.{Full, Result, full}
 use Rattle.state.specs.Ready.{Ready}
 use Rattle.sound.specs.Sound.{Entries, MARKER}
 use Rattle.sound.specs.State.{SoundFull}
-use Rattle.standard.specs.Step.{Asked, asked, unknown, middleStep, lowStep, highStep, step}
+use Rattle.standard.specs.Step.{unknown, middleStep, lowStep, highStep, step}
 use Rattle.standard.specs.Run.{ran, unlessRefused, onItem, runFor, runFrom, runOf, onSingle, single}
 use Rattle.kept.specs.Usual.{open-inside}
 use Rattle.kept.specs.Small.{marked-sound, cleared-sound, popped-sound, fostered-sound, headed-sound, moded-sound, unmoded-sound}
@@ -41,7 +42,7 @@ module _ (f : Full) (ok : SoundFull f) where
   unfolding unknown
   unknown-sound = ok
 
-  middle-sound : (r : Asked) → SoundFull (middleStep r f .after)
+  middle-sound : (r : Record) → SoundFull (middleStep r f .after)
   unfolding middleStep
   middle-sound r =
       both (eqb (r .call) 8) _ _ (adoption-sound f ok (r .a))
@@ -51,7 +52,7 @@ module _ (f : Full) (ok : SoundFull f) where
       (both (eqb (r .call) 12) _ _ (closed-cell-sound f ok)
       (both (eqb (r .call) 13) _ _ (implied-sound f ok (r .a) (r .b)) unknown-sound)))))
 
-  low-sound : (s : List ℕ) (r : Asked) → SoundFull (lowStep s r f .after)
+  low-sound : (s : List ℕ) (r : Record) → SoundFull (lowStep s r f .after)
   unfolding lowStep
   low-sound s r =
       both (eqb (r .call) 1) _ _ (inserted-element-sound f ok s (r .a) (r .b) (r .c) (r .from) (r .count))
@@ -62,7 +63,7 @@ module _ (f : Full) (ok : SoundFull f) where
       (both (eqb (r .call) 6) _ _ (cleared-sound f ok)
       (both (eqb (r .call) 7) _ _ (reconstructed-sound f ok) (middle-sound r)))))))
 
-  high-sound : (r : Asked) → SoundFull (highStep r f .after)
+  high-sound : (r : Record) → SoundFull (highStep r f .after)
   unfolding highStep
   high-sound r =
       both (eqb (r .call) 14) _ _ (popped-sound f ok)
@@ -71,7 +72,7 @@ module _ (f : Full) (ok : SoundFull f) where
       (both (eqb (r .call) 17) _ _ (unmoded-sound f ok)
       (both (eqb (r .call) 18) _ _ (headed-sound f ok (r .a)) unknown-sound))))
 
-  pub step-sound : (s : List ℕ) (r : Asked) → SoundFull (step s r f .after)
+  pub step-sound : (s : List ℕ) (r : Record) → SoundFull (step s r f .after)
   unfolding step
   step-sound s r = both (ltb (r .call) 14) _ _ (low-sound s r) (high-sound r)
 
@@ -80,7 +81,7 @@ module _ (f : Full) (ok : SoundFull f) where
   single-sound s = by (itemAt s 0)
     where
       by : (i : Item) → SoundFull (onSingle i s f .after)
-      by (is.Call k a b c from count next) = step-sound s (asked k a b c from count)
+      by (is.Call r next) = step-sound s r
       by is.Unknown = ok
       by is.Bad = ok
 
@@ -97,15 +98,13 @@ run-sound (suc k) s i n f ok = by (ltb i (length s)) (itemAt s i) (λ next g goo
     go next r good more false = good
 
     item : (j : Item) → ((next : ℕ) (g : Full) → SoundFull g → SoundFull (runFor k s next (n + 1) g .after))
-        → SoundFull (onItem j n f (λ (x : Asked) (next : ℕ). unlessRefused (step s x f) n (runFor k s next (n + 1))) .after)
-    item (is.Call m a b c from count next) more =
-        let r = step s (asked m a b c from count) f in
-        go next r (step-sound f ok s (asked m a b c from count)) (more next) (eqb (r .answer) 0)
+        → SoundFull (onItem j n f (λ (r : Record) (next : ℕ). unlessRefused (step s r f) n (runFor k s next (n + 1))) .after)
+    item (is.Call r next) more = go next (step s r f) (step-sound f ok s r) (more next) (eqb (step s r f .answer) 0)
     item is.Unknown more = ok
     item is.Bad more = ok
 
     by : (b : Bool) (j : Item) → ((next : ℕ) (g : Full) → SoundFull g → SoundFull (runFor k s next (n + 1) g .after))
-        → SoundFull (cond b (onItem j n f (λ (x : Asked) (next : ℕ). unlessRefused (step s x f) n (runFor k s next (n + 1)))) (ran 0 n f) .after)
+        → SoundFull (cond b (onItem j n f (λ (r : Record) (next : ℕ). unlessRefused (step s r f) n (runFor k s next (n + 1)))) (ran 0 n f) .after)
     by true j more = item j more
     by false j more = ok
 

@@ -19,6 +19,7 @@ use Rattle.lent.specs.Tree as tree
 use Rattle.places.specs.Places.{at, lastWith, down, never}
 use Rattle.places.specs.declared.Found.{Found}
 use Rattle.places.specs.declared.Found.the-variants.{At, Nothing}
+use Rattle.places.proofs.Laws.{down-last}
 use Rattle.state.specs.Full.{Full}
 use Rattle.state.specs.declared.Context.{Context}
 use Rattle.sound.specs.Sound.{Sound}
@@ -29,7 +30,6 @@ use Rattle.standard.specs.Insertion.{usualPlace}
 use Rattle.standard.specs.declared.Place.{Place}
 use Rattle.standard.specs.declared.Place.the-variants.{End, Before}
 use Rattle.kept.specs.Keeps.{and-true}
-use Rattle.kept.specs.Search.{down-at}
 use Rattle.kept.specs.Same.{open-used}
 use Rattle.kept.specs.Attach.{parentAt, Spot}
 
@@ -171,7 +171,7 @@ module _ (f : Full) (j : ℕ) (stops : (k : ℕ) → k < length (f .stack .held)
           → P (fosterAt r (f .nodes .mem) (f .stack))
       by Nothing e = ends 0 some
       by (At i) e =
-          let t = down-at (isFosterStop (f .nodes .mem)) never (f .stack .held) (length (f .stack .held)) i e in
+          let t = down-last (isFosterStop (f .nodes .mem)) never (f .stack .held) (length (f .stack .held)) i e in
           after-stop i (stops i (t .below) (t .has)) (t .has)
 
   pub at-appropriate : (i : ℕ) → i < j → P (appropriatePlace (f .nodes .mem) (f .stack) (f .flags .foster) (at (f .stack) i))

@@ -6,6 +6,7 @@ use mathlib.Core.Bool.{Bool, true, false, cond}
 use mathlib.Core.List.{List, [], _∷_, _++_}
 use native.Mathlib.Numerals.{add-one}
 use native.Mathlib.Omega.{arith}
+use native.Mathlib.Decide.{decLt}
 use lib.Dec.{eqb}
 use lib.ListN.{length, getD, take, drop, set, replicate, length-append, length-take, length-drop, length-set, take-append-drop, List·getD-append}
 use lib.Seq.{getD-at, take-append-add, take-at, take-add, drop-drop, take-take, set-split, append-snoc, set-append-left, take-append-le, drop-cons, length-take-le, getD-take, take-suc, drop-at, set-at, getD-append-add, getD-drop, drop-append-add, take-set-lt, drop-set-lt}
@@ -17,11 +18,17 @@ use Rattle.places.specs.Places.{Places, Whole, placesOf, at, pushed, wit
 one-more : (n : ℕ) → 0 < n → suc (n - 1) ≡ n
 one-more n h = omega arith
 
-never-at : (i : ℕ) → Nothing ≡ At i → ⊥
+pub never-at : (i : ℕ) → Nothing ≡ At i → ⊥
 never-at i e = let z : _≡_ {A = ℕ} 0 1 = cc in omega arith
 
-at-at : (k i : ℕ) → At k ≡ At i → k ≡ i
+pub at-at : (k i : ℕ) → At k ≡ At i → k ≡ i
 at-at k i e = cc
+
+-- entry i is the last of the first k that has p
+pub record Last (p : ℕ → Bool) (xs : List ℕ) (k i : ℕ) : Type 0 where
+  pub below : i < k
+  pub has : p (getD xs i 0) ≡ true
+  pub none : (j : ℕ) → i < j → j < k → p (getD xs j 0) ≡ false
 
 module _ (hit stop : ℕ → Bool) (h : List ℕ) where
   down-hit′ : (k : ℕ) → hit (getD h k 0) ≡ true → At k ≡ down hit stop h (suc k)
@@ -56,22 +63,47 @@ module _ (hit stop : ℕ → Bool) (h : List ℕ) where
   down-take d zero le = refl
   down-take d (suc k) le = rw (getD-take d h k 0 (omega arith), down-take d k (omega arith))
 
-  -- what a search finds is in its range
-  down-lt : (k i : ℕ) → down hit stop h k ≡ At i → i < k
-  down-lt zero i e = absurd (never-at i (down-none zero (omega arith) ∙ e))
-  down-lt (suc k) i e = by (hit (getD h k 0)) (stop (getD h k 0)) refl refl (down-lt k i)
+  -- what a search finds is the last that is wanted
+  pub down-last : (k i : ℕ) → down hit stop h k ≡ At i → Last hit h k i
+  down-last zero i e = absurd (never-at i (down-none zero (omega arith) ∙ e))
+  down-last (suc k) i e = by (hit (getD h k 0)) (stop (getD h k 0)) refl refl (down-last k i)
     where
-      by : (a b : Bool) → hit (getD h k 0) ≡ a → stop (getD h k 0) ≡ b → (down hit stop h k ≡ At i → i < k) → i < suc k
-      by true b p q r = let z : k ≡ i = at-at k i (down-hit′ k p ∙ e) in omega arith
+      more : Last hit h k i → hit (getD h k 0) ≡ false → Last hit h (suc k) i
+      more l q = record { below = omega (arith, l .below); has = l .has; none = λ j g b. at-top j g b (decLt j k) }
+        where
+          at-top : (j : ℕ) → i < j → j < suc k → Dec (j < k) → hit (getD h j 0) ≡ false
+          at-top j g b (yes a) = l .none j g a
+          at-top j g b (no n) = let y : j ≡ k = omega arith in ap (λ (y : ℕ). hit (getD h y 0)) y ∙ q
+
+      by : (a b : Bool) → hit (getD h k 0) ≡ a → stop (getD h k 0) ≡ b → (down hit stop h k ≡ At i → Last hit h k i) → Last hit h (suc k) i
+      by true b p q r =
+          let z : k ≡ i = at-at k i (down-hit′ k p ∙ e) in
+          record { below = omega arith; has = ap (λ (y : ℕ). hit (getD h y 0)) (sym z) ∙ p; none = λ j g b. absurd (omega arith) }
       by false true p q r = absurd (never-at i (down-stop′ k p q ∙ e))
-      by false false p q r = let z = r (down-on′ k p q ∙ e) in omega arith
+      by false false p q r = more (r (down-on′ k p q ∙ e)) p
 
 pub lastWith-of : (hit stop : ℕ → Bool) (h : List ℕ) (d : ℕ) → d ≤ length h → lastWith hit stop (placesOf h d) ≡ down hit stop h d
 unfolding lastWith placesOf
 lastWith-of hit stop h d le = rw (length-take-le d h le) (down-take hit stop h d d (omega arith))
 
 pub lastWith-lt : (hit stop : ℕ → Bool) (h : List ℕ) (d i : ℕ) → d ≤ length h → lastWith hit stop (placesOf h d) ≡ At i → i < d
-lastWith-lt hit stop h d i le e = down-lt hit stop h d i (sym (lastWith-of hit stop h d le) ∙ e)
+lastWith-lt hit stop h d i le e = down-last hit stop h d i (sym (lastWith-of hit stop h d le) ∙ e) .below
+
+pub last-found : (hit stop : ℕ → Bool) (p : Places) (i : ℕ) → lastWith hit stop p ≡ At i → Last hit (p .held) (length (p .held)) i
+unfolding lastWith
+last-found hit stop p i e = down-last hit stop (p .held) (length (p .held)) i e
+
+-- the entry that was found stands nowhere after its place
+pub last-same : (hit : ℕ → Bool) (p : Places) (i : ℕ) → Last hit (p .held) (length (p .held)) i → Last (same (at p i)) (p .held) (length (p .held)) i
+unfolding at
+last-same hit p i l =
+    record { below = l .below; has = eq-eqb (getD (p .held) i 0) (getD (p .held) i 0) refl; none = λ j g h. ne-eqb (getD (p .held) j 0) (getD (p .held) i 0) (λ e. differ j g h e) }
+  where
+    differ : (j : ℕ) → i < j → j < length (p .held) → getD (p .held) j 0 ≡ getD (p .held) i 0 → ⊥
+    differ j g h e =
+        let f : false ≡ true = sym (l .none j g h) ∙ ap hit e ∙ l .has in
+        let z : _≡_ {A = ℕ} 0 1 = cc in
+        omega arith
 
 pub place-of : (h : List ℕ) (d n : ℕ) → d ≤ length h → placeOf (placesOf h d) n ≡ down (same n) never h d
 unfolding placeOf

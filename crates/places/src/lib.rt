@@ -24,6 +24,13 @@ pub fn find(s: &[u16], d: usize, n: u16) -> Found
     Found::Nothing
 }
 
+// The place before i, or the first place.
+pub fn previous(i: usize) -> usize
+    ensures { λ r. ⌜ r ≡ i - 1 ⌝ }
+{
+    if 0 < i { i - 1 } else { 0 }
+}
+
 // What was found first, or else the other.
 pub fn first_of(found: Found, other: Found) -> Found
     ensures { λ r. ⌜ r ≡ firstOf found other ⌝ }

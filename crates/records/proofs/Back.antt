@@ -16,10 +16,11 @@ use Rattle.records.specs.declared.Read.{Read}
 use Rattle.records.specs.declared.Read.the-variants as read
 use Rattle.records.specs.declared.Skip.{Skip}
 use Rattle.records.specs.declared.Skip.the-variants as skip
+use Rattle.records.specs.declared.Record.{Record}
 use Rattle.records.specs.declared.Item.{Item}
 use Rattle.records.specs.declared.Item.the-variants as is
 use Rattle.records.specs.Number.{numberAt}
-use Rattle.records.specs.Record.{skipThen, skipAt, andThen, endThen, pick, countOf, pairsOf, numberIf, pairsAt, argumentsAt, itemAt}
+use Rattle.records.specs.Record.{asked, skipThen, skipAt, andThen, endThen, pick, countOf, pairsOf, numberIf, pairsAt, argumentsAt, itemAt}
 use Rattle.records.proofs.Numbers.{encoded, Stands, Back, number-back}
 use Rattle.records.proofs.Records.{encodedAll, flat, pairNumbers, recordOf, Low, Written, count-few, item-unknown, item-call}
 
@@ -123,17 +124,17 @@ data Found (s : List ℕ) (i : ℕ) : Type 0 where
   unknown : (call : ℕ) → call ≤ 65535 → (call ≡ 0) ⊎ (18 < call) → Stands s i (encoded call) → Found s i
   known : (call : ℕ) (args : List ℕ) (ps : List (ℕ × ℕ)) → Written call args ps → Stands s i (recordOf call args ps) → Found s i
 
-call-not-bad : (call a b c from count next : ℕ) → is.Call call a b c from count next ≢ is.Bad
-call-not-bad call a b c from count next e = let z : _≡_ {A = ℕ} 0 1 = cc in omega arith
+call-not-bad : (r : Record) (next : ℕ) → is.Call r next ≢ is.Bad
+call-not-bad r next e = let z : _≡_ {A = ℕ} 0 1 = cc in omega arith
 
-call-not-unknown : (call a b c from count next : ℕ) → is.Call call a b c from count next ≢ is.Unknown
-call-not-unknown call a b c from count next e = let z : _≡_ {A = ℕ} 0 1 = cc in omega arith
+call-not-unknown : (r : Record) (next : ℕ) → is.Call r next ≢ is.Unknown
+call-not-unknown r next e = let z : _≡_ {A = ℕ} 0 1 = cc in omega arith
 
 unknown-not-bad : is.Unknown ≢ is.Bad
 unknown-not-bad e = let z : _≡_ {A = ℕ} 0 1 = cc in omega arith
 
-same-call : {call a b c from count next call′ a′ b′ c′ from′ count′ next′ : ℕ} → is.Call call a b c from count next ≡ is.Call call′ a′ b′ c′ from′ count′ next′ → call ≡ call′
-same-call e = cc
+same-call : (r r′ : Record) {next next′ : ℕ} → is.Call r next ≡ is.Call r′ next′ → r .call ≡ r′ .call
+same-call r r′ {next} {next′} e = let d : r ≡ r′ = cc in ap (λ (x : Record). x .call) d
 
 -- the arguments of a call that takes n
 argumentsFor : List ℕ → ℕ → ℕ → ℕ → Item
@@ -164,12 +165,12 @@ module _ (s : List ℕ) (small : (k : ℕ) → getD s k 0 < 256) where
   unfolding pairsAt numberIf pairNumbers encodedAll flat
   pairs-back i call a b c x h e n = by (ℕ-discrete (pairsOf call) 0)
     where
-      some : pairsOf call ≢ 0 → andThen (numberAt s i) (λ (count from : ℕ). endThen (skipAt s from (count * 2)) (λ (next : ℕ). is.Call call a b c from count next)) ≡ x
+      some : pairsOf call ≢ 0 → andThen (numberAt s i) (λ (count from : ℕ). endThen (skipAt s from (count * 2)) (λ (next : ℕ). is.Call (asked call a b c from count) next)) ≡ x
           → (ps : List (ℕ × ℕ)) × PairsBack s i call ps
       some z f =
-          let t = and-back (numberAt s i) (λ (count from : ℕ). endThen (skipAt s from (count * 2)) (λ (next : ℕ). is.Call call a b c from count next)) x f n in
+          let t = and-back (numberAt s i) (λ (count from : ℕ). endThen (skipAt s from (count * 2)) (λ (next : ℕ). is.Call (asked call a b c from count) next)) x f n in
           let u = back i (t .0) (t .1) (t .2) in
-          let r = end-back (skipAt s (t .1) (t .0 * 2)) (λ (next : ℕ). is.Call call a b c (t .1) (t .0) next) x (t .3) n in
+          let r = end-back (skipAt s (t .1) (t .0 * 2)) (λ (next : ℕ). is.Call (asked call a b c (t .1) (t .0)) next) x (t .3) n in
           let k = skip-back (t .0 * 2) (t .1) (r .0) (u .fits) (r .1) in
           let p = paired (t .0) (k .0) (k .1) in
           let m = nums-more u (k .2) in (
@@ -265,14 +266,14 @@ module _ (s : List ℕ) (small : (k : ℕ) → getD s k 0 < 256) where
             (stands-on (encodedAll (r .args)) (encodedAll (pairNumbers call (k .0))) (r .nums .ends) (r .nums .stands) (k .1 .stands)))
 
     -- a call that is read was written as a record of that call
-    pub item-back : (call a b c from count next : ℕ) → itemAt s i ≡ is.Call call a b c from count next
-        → (args : List ℕ) × (ps : List (ℕ × ℕ)) × Written call args ps × Stands s i (recordOf call args ps)
-    item-back call a b c from count next e = by (found (is.Call call a b c from count next) e (call-not-bad call a b c from count next))
+    pub item-back : (r : Record) (next : ℕ) → itemAt s i ≡ is.Call r next
+        → (args : List ℕ) × (ps : List (ℕ × ℕ)) × Written (r .call) args ps × Stands s i (recordOf (r .call) args ps)
+    item-back r next e = by (found (is.Call r next) e (call-not-bad r next))
       where
-        by : Found s i → (args : List ℕ) × (ps : List (ℕ × ℕ)) × Written call args ps × Stands s i (recordOf call args ps)
-        by (unknown k h o w) = absurd (call-not-unknown call a b c from count next (sym e ∙ item-unknown s i k h o w))
+        by : Found s i → (args : List ℕ) × (ps : List (ℕ × ℕ)) × Written (r .call) args ps × Stands s i (recordOf (r .call) args ps)
+        by (unknown k h o w) = absurd (call-not-unknown r next (sym e ∙ item-unknown s i k h o w))
         by (known k args ps t w) =
-            let d : k ≡ call = same-call (sym (item-call s i k args ps t w .1 .is) ∙ e) in
+            let d : k ≡ r .call = same-call _ r (sym (item-call s i k args ps t w .1 .is) ∙ e) in
             (args, ps, rw d at t, rw d at w)
 
     -- an unknown call that is read was written as a number that is no call's
@@ -281,7 +282,7 @@ module _ (s : List ℕ) (small : (k : ℕ) → getD s k 0 < 256) where
       where
         by : Found s i → (call : ℕ) × (call ≤ 65535) × ((call ≡ 0) ⊎ (18 < call)) × Stands s i (encoded call)
         by (unknown k h o w) = (k, h, o, w)
-        by (known k args ps t w) = absurd (call-not-unknown _ _ _ _ _ _ _ (sym (item-call s i k args ps t w .1 .is) ∙ e))
+        by (known k args ps t w) = absurd (call-not-unknown _ _ (sym (item-call s i k args ps t w .1 .is) ∙ e))
 
     -- a record is cut short or badly written exactly where neither an unknown call nor a record of a known one stands
     pub item-bad : (itemAt s i ≡ is.Bad)
@@ -290,7 +291,7 @@ module _ (s : List ℕ) (small : (k : ℕ) → getD s k 0 < 256) where
     item-bad = (
       λ e. (
         λ call h o w. unknown-not-bad (sym (item-unknown s i call h o w) ∙ e),
-        λ call args ps t w. call-not-bad _ _ _ _ _ _ _ (sym (item-call s i call args ps t w .1 .is) ∙ e),
+        λ call args ps t w. call-not-bad _ _ (sym (item-call s i call args ps t w .1 .is) ∙ e),
       ),
       λ f. by (itemAt s i) refl f,
     )
@@ -306,4 +307,4 @@ module _ (s : List ℕ) (small : (k : ℕ) → getD s k 0 < 256) where
             × ((call : ℕ) (args : List ℕ) (ps : List (ℕ × ℕ)) → Written call args ps → ¬ Stands s i (recordOf call args ps))) → x ≡ is.Bad
         by is.Bad e f = refl
         by is.Unknown e f = absurd (none (found is.Unknown e unknown-not-bad) f)
-        by (is.Call k a b c from count next) e f = absurd (none (found (is.Call k a b c from count next) e (call-not-bad k a b c from count next)) f)
+        by (is.Call r next) e f = absurd (none (found (is.Call r next) e (call-not-bad r next)) f)

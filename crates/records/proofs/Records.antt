@@ -17,7 +17,7 @@ use Rattle.records.specs.declared.Skip.the-variants as skip
 use Rattle.records.specs.declared.Item.the-variants as is
 use Rattle.records.specs.Number.{numberAt}
 use Rattle.records.specs.Pair.{valueAt, nextAt, nameAt, textAt, pairNext}
-use Rattle.records.specs.Record.{skipAt, countOf, pairsOf, numberIf, pairsAt, itemAt}
+use Rattle.records.specs.Record.{asked, skipAt, countOf, pairsOf, numberIf, pairsAt, itemAt}
 use Rattle.records.proofs.Laws.{skip-none, arguments-all, pairs-all}
 use Rattle.records.proofs.Numbers.{encoded, Stands, number-stands}
 
@@ -157,7 +157,7 @@ flat-length (p ∷ ps) = omega (arith, flat-length ps)
 
 -- the pairs of a call start at `from`, and end where the record does
 record Pairs (s : List ℕ) (i call a b c : ℕ) (ps : List (ℕ × ℕ)) (from : ℕ) : Type 0 where
-  is : pairsAt s i call a b c ≡ is.Call call a b c from (length ps) (from + length (encodedAll (flat ps)))
+  is : pairsAt s i call a b c ≡ is.Call (asked call a b c from (length ps)) (from + length (encodedAll (flat ps)))
   stands : Stands s from (encodedAll (flat ps))
   ends : from + length (encodedAll (flat ps)) ≡ i + length (encodedAll (pairNumbers call ps))
 
@@ -208,7 +208,7 @@ pub record Written (call : ℕ) (args : List ℕ) (ps : List (ℕ × ℕ)) : Typ
 
 -- what is read there: the call with its arguments, 0 where it takes fewer, and its pairs, which stand at `from` up to the record's end
 pub record Called (s : List ℕ) (i call : ℕ) (args : List ℕ) (ps : List (ℕ × ℕ)) (from : ℕ) : Type 0 where
-  pub is : itemAt s i ≡ is.Call call (getD args 0 0) (getD args 1 0) (getD args 2 0) from (length ps) (i + length (recordOf call args ps))
+  pub is : itemAt s i ≡ is.Call (asked call (getD args 0 0) (getD args 1 0) (getD args 2 0) from (length ps)) (i + length (recordOf call args ps))
   pub stands : Stands s from (encodedAll (flat ps))
   pub ends : from + length (encodedAll (flat ps)) ≡ i + length (recordOf call args ps)
 

@@ -1,5 +1,6 @@
 // From words to a state.
-use lent::Node;
+use crate::region;
+use crate::region::Region;
 use state::Context;
 use state::Counts;
 use state::Flags;
@@ -45,19 +46,15 @@ fn handles(s: &[u8], from: usize, count: usize) -> [u16; 512] {
     h
 }
 
-// The nodes, 14 fields each, from number 1 on.
-pub fn nodes(s: &[u8], from: usize, mem: &mut [u8], count: usize) {
-    let total = lent::least(count, 4096) * 14;
+// So many slots of a region, and the word after them.
+pub fn slots(s: &[u8], from: usize, of: Region, mem: &mut [u8], count: usize) -> usize {
+    let total = region::words(of, count);
     let mut k: usize = 0;
     while k < total {
-        lent::put(
-            mem,
-            Node((k / 14 % 4096 + 1) as u16),
-            k % 14,
-            word(s, sum(from, k)),
-        );
+        region::put(of, mem, k, word(s, sum(from, k)));
         k += 1;
     }
+    sum(from, total)
 }
 
 // Places of a list.
@@ -73,25 +70,6 @@ pub fn places(s: &[u8], from: usize, out: &mut [u16], count: usize) {
 fn put_place(out: &mut [u16], k: usize, v: u16) {
     if k < out.len() {
         out[k] = v;
-    }
-}
-
-// The pieces, from number 1 on, and the pairs, from number 0 on: two words each.
-pub fn pieces(s: &[u8], from: usize, mem: &mut [u8], count: usize) {
-    let total = lent::least(count, 8192) * 2;
-    let mut k: usize = 0;
-    while k < total {
-        lent::put_piece(mem, (k / 2 % 8192 + 1) as u16, k % 2, word(s, sum(from, k)));
-        k += 1;
-    }
-}
-
-pub fn pairs(s: &[u8], from: usize, mem: &mut [u8], count: usize) {
-    let total = lent::least(count, 4096) * 2;
-    let mut k: usize = 0;
-    while k < total {
-        lent::put_pair(mem, (k / 2 % 4096) as u16, k % 2, word(s, sum(from, k)));
-        k += 1;
     }
 }
 

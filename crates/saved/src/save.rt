@@ -1,6 +1,7 @@
 // From a state to hexadecimal text: each word low byte first, two digits a byte.
 ghost use Prim.Native.Nat.{_<_};
-use lent::Node;
+use crate::region;
+use crate::region::Region;
 use state::Context;
 use state::State;
 
@@ -65,12 +66,13 @@ fn put_handles(h: &[u16; 512], depth: usize, out: &mut [u8], at: usize) -> usize
     p
 }
 
-fn put_nodes(mem: &[u8], count: usize, out: &mut [u8], at: usize) -> usize {
-    let total = lent::least(count, 4096) * 14;
+// So many slots of a region.
+fn put_slots(of: Region, mem: &[u8], count: usize, out: &mut [u8], at: usize) -> usize {
+    let total = region::words(of, count);
     let mut p = at;
     let mut k: usize = 0;
     while k < total {
-        let v = lent::get(mem, Node((k / 14 % 4096 + 1) as u16), k % 14);
+        let v = region::get(of, mem, k);
         p = put_word(out, p, v);
         k += 1;
     }
@@ -90,30 +92,6 @@ fn put_places(s: &[u16], count: usize, out: &mut [u8], at: usize) -> usize {
     let mut k: usize = 0;
     while k < total {
         let v = place(s, k);
-        p = put_word(out, p, v);
-        k += 1;
-    }
-    p
-}
-
-fn put_pieces(mem: &[u8], count: usize, out: &mut [u8], at: usize) -> usize {
-    let total = lent::least(count, 8192) * 2;
-    let mut p = at;
-    let mut k: usize = 0;
-    while k < total {
-        let v = lent::get_piece(mem, (k / 2 % 8192 + 1) as u16, k % 2);
-        p = put_word(out, p, v);
-        k += 1;
-    }
-    p
-}
-
-fn put_pairs(mem: &[u8], count: usize, out: &mut [u8], at: usize) -> usize {
-    let total = lent::least(count, 4096) * 2;
-    let mut p = at;
-    let mut k: usize = 0;
-    while k < total {
-        let v = lent::get_pair(mem, (k / 2 % 4096) as u16, k % 2);
         p = put_word(out, p, v);
         k += 1;
     }
@@ -189,11 +167,14 @@ pub fn put_state(
     let p = arena::room::free_pieces(pieces, 0);
     let q = arena::room::free_pairs(pairs, 0);
     let a = put_record(st, n, list.len(), modes.len(), p, q, out, at);
-    let b = put_nodes(nodes, lent::least(st.counts.nodes, n), out, a);
+    let i = lent::least(st.counts.nodes, n);
+    let j = lent::least(st.counts.pieces, p);
+    let k = lent::least(st.counts.pairs, q);
+    let b = put_slots(Region::Nodes, nodes, i, out, a);
     let c = put_places(list, st.counts.list, out, b);
     let d = put_places(modes, st.counts.modes, out, c);
-    let e = put_pieces(pieces, lent::least(st.counts.pieces, p), out, d);
-    put_pairs(pairs, lent::least(st.counts.pairs, q), out, e)
+    let e = put_slots(Region::Pieces, pieces, j, out, d);
+    put_slots(Region::Pairs, pairs, k, out, e)
 }
 
 // The bytes of a text.

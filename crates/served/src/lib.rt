@@ -8,6 +8,7 @@ use queries::foreign;
 use queries::reset;
 use queries::tokenizer;
 use saved::load;
+use saved::region::Region;
 use saved::save;
 use state::State;
 
@@ -42,8 +43,7 @@ fn fill(
 ) -> usize {
     let a = after_stack(s);
     let n = lent::least(load::number(s, 5), arena::room::free_nodes(nodes, 0));
-    load::nodes(s, a, nodes, n);
-    let b = load::sum(a, lent::least(n, 4096) * 14);
+    let b = load::slots(s, a, Region::Nodes, nodes, n);
     let l = lent::least(load::number(s, 6), list.len());
     load::places(s, b, list, l);
     let c = load::sum(b, l);
@@ -55,11 +55,9 @@ fn fill_rest(s: &[u8], at: usize, modes: &mut [u16], pieces: &mut [u8], pairs: &
     load::places(s, at, modes, m);
     let a = load::sum(at, m);
     let p = lent::least(load::number(s, 8), arena::room::free_pieces(pieces, 0));
-    load::pieces(s, a, pieces, p);
-    let b = load::sum(a, lent::least(p, 8192) * 2);
+    let b = load::slots(s, a, Region::Pieces, pieces, p);
     let q = lent::least(load::number(s, 9), arena::room::free_pairs(pairs, 0));
-    load::pairs(s, b, pairs, q);
-    load::sum(b, lent::least(q, 4096) * 2)
+    load::slots(s, b, Region::Pairs, pairs, q)
 }
 
 // Request 1. A first word that is neither 0 nor 1 is refused, as a flag would be.

@@ -13,12 +13,12 @@ use Rattle.places.specs.declared.Found.{Found}
 use Rattle.places.specs.declared.Found.the-variants.{At, Nothing}
 use Rattle.state.specs.declared.Core.{Core}
 use Rattle.state.specs.declared.Context.{Context}
-use Rattle.state.specs.Fields.{setDepth, setCounts, setFlags, setList, setModes, setFoster, setHead}
-use Rattle.state.specs.Full.{Full, full, result, refused, done, withStack, withList, withModes, withFlags}
+use Rattle.state.specs.Fields.{setDepth, setCounts, setFlags, setNodes, setList, setModes, setFoster, setHead}
+use Rattle.state.specs.Full.{Full, full, result, refused, done, withStack, withList, withModes, withNodes, withFlags}
 use Rattle.standard.specs.Small.{room, MARKER, marked, clearedAt, cleared, popped, fostered, headed, moded, unmoded}
 
 -- the places are as many as were lent
-room-of : (most : ℕ) (l : List ℕ) (k : ℕ) → room most (placesOf l k) ≡ min (length l) most
+pub room-of : (most : ℕ) (l : List ℕ) (k : ℕ) → room most (placesOf l k) ≡ min (length l) most
 unfolding room placesOf
 room-of most l k = ap (λ (n : ℕ). min n most) (sym (length-append (take k l) (drop k l)) ∙ ap length (take-append-drop k l))
 
@@ -33,6 +33,15 @@ cleared-none p eo h = rw (sym eo ∙ h)
 pub size-of : (l : List ℕ) (k : ℕ) → placesOf l k .size ≡ k
 unfolding placesOf
 size-of l k = refl
+
+-- a count that is set to what it is
+pub depth-stays : (c : Core) (d : ℕ) → c .depth ≡ d → c ≡ setDepth c d
+unfolding setDepth
+depth-stays c d e = rw (← e)
+
+pub list-stays : (c : Core) (k : ℕ) → c .counts .list ≡ k → c ≡ setList c k
+unfolding setList setCounts
+list-stays c k e = rw (← e)
 
 or-right : (a b : Bool) → b ≡ true → a || b ≡ true
 or-right true b h = refl
@@ -80,7 +89,7 @@ unmoded-no f h = rw (le-ltb 0 (f .modes .size) h)
 -- ---- the same from what the code holds
 
 module _ (s n l m p q : List ℕ) (x : Context) (c : Core) where
-  list-put : (l′ : List ℕ) (size : ℕ) (P : Places) {c′ : Core} → placesOf l′ size ≡ P → c′ ≡ setList c size → full s c′ x n l′ m p q ≡ withList (full s c x n l m p q) P
+  pub list-put : (l′ : List ℕ) (size : ℕ) (P : Places) {c′ : Core} → placesOf l′ size ≡ P → c′ ≡ setList c size → full s c′ x n l′ m p q ≡ withList (full s c x n l m p q) P
   unfolding withList setList setCounts
   list-put l′ size P ep ec = rw (ec, ep)
 
@@ -91,6 +100,12 @@ module _ (s n l m p q : List ℕ) (x : Context) (c : Core) where
   pub stack-put : (s′ : List ℕ) (size : ℕ) (P : Places) {c′ : Core} → placesOf s′ size ≡ P → c′ ≡ setDepth c size → full s′ c′ x n l m p q ≡ withStack (full s c x n l m p q) P
   unfolding withStack setDepth
   stack-put s′ size P ep ec = rw (ec, ep)
+
+  -- the stack, the nodes and the list
+  pub all-put : (s′ n′ l′ : List ℕ) (k d e : ℕ) (P Q : Places) {c₁ c₂ c′ : Core} → c₁ ≡ setNodes c k → c₂ ≡ setDepth c₁ d → c′ ≡ setList c₂ e
+      → placesOf s′ d ≡ P → placesOf l′ e ≡ Q → full s′ c′ x n′ l′ m p q ≡ withList (withStack (withNodes (full s c x n l m p q) n′ k) P) Q
+  unfolding withList withStack withNodes setDepth setNodes setList setCounts
+  all-put s′ n′ l′ k d e P Q ek ed ee ep eq = rw (ee, ed, ek, ep, eq)
 
   pub marked-done : (l′ : List ℕ) (size : ℕ) {c′ : Core} {k : ℕ} → k ≡ min (length l) 256 → c .counts .list < k → placesOf l′ size ≡ pushed (placesOf l (c .counts .list)) MARKER
       → c′ ≡ setList c size → result 0 (full s c′ x n l′ m p q) ≡ marked (full s c x n l m p q)

@@ -9,10 +9,8 @@ use native.Mathlib.Decide.{decLt}
 use native.Mathlib.Numerals.{sub-one}
 use lib.ListN.{length, getD, take, replicate, replicate-append-replicate}
 use lib.Seq.{length-take-le, getD-take, take-take, take-length}
-use borrow.Author.Tests.{eq-eqb, ne-eqb}
-use Rattle.places.specs.Places.{Places, Whole, at, same, cut, down, lastWith}
-use Rattle.places.specs.declared.Found.the-variants.{At, Nothing}
-use Rattle.places.proofs.Laws.{places-eq}
+use Rattle.places.specs.Places.{Places, Whole, at, cut}
+use Rattle.places.proofs.Laws.{places-eq, Last}
 use Rattle.standard.specs.Html.{current}
 use Rattle.standard.specs.Stack.{shorter, whileTop, poppedWhile, untilTop, poppedUntil}
 
@@ -98,12 +96,6 @@ while-is p s w =
 
 -- ---- until
 
--- entry i is the last of the first k that has p
-pub record Last (p : ℕ → Bool) (xs : List ℕ) (k i : ℕ) : Type 0 where
-  pub below : i < k
-  pub has : p (getD xs i 0) ≡ true
-  pub none : (j : ℕ) → i < j → j < k → p (getD xs j 0) ≡ false
-
 until-cut : (p : ℕ → Bool) (s : Places) (k i : ℕ) → k ≤ length (s .held) → Last p (s .held) k i → untilTop p (cut s k) k ≡ cut s i
 unfolding untilTop
 until-cut p s zero i h l = absurd (omega (arith, l .below))
@@ -136,47 +128,3 @@ closed-cut p imp s i w l e =
     let lt : i < stays imp (s .held) (length (s .held)) = stays-past imp (s .held) (length (s .held)) i (l .below) e in
     ap (poppedUntil p) (while-is imp s w)
     ∙ until-at p s (stays imp (s .held) (length (s .held))) i le (record { below = lt; has = l .has; none = λ j g h. l .none j g (omega arith) })
-
--- ---- searches
-
-never-at : {i : ℕ} → Nothing ≡ At i → ⊥
-never-at e = let z : _≡_ {A = ℕ} 0 1 = cc in omega arith
-
-at-at : {k i : ℕ} → At k ≡ At i → k ≡ i
-at-at e = cc
-
--- what a search finds is the last that is wanted
-down-last : (p stop : ℕ → Bool) (xs : List ℕ) (k i : ℕ) → down p stop xs k ≡ At i → Last p xs k i
-unfolding down
-down-last p stop xs zero i e = absurd (never-at e)
-down-last p stop xs (suc k) i e = by (p (getD xs k 0)) (stop (getD xs k 0)) refl e (down-last p stop xs k i)
-  where
-    by : (b d : Bool) → p (getD xs k 0) ≡ b → cond b (At k) (cond d Nothing (down p stop xs k)) ≡ At i → (down p stop xs k ≡ At i → Last p xs k i) → Last p xs (suc k) i
-    by true d q f r =
-        let j : k ≡ i = at-at f in
-        record { below = omega arith; has = ap (λ (y : ℕ). p (getD xs y 0)) (sym j) ∙ q; none = λ y g h. absurd (omega arith) }
-    by false true q f r = absurd (never-at f)
-    by false false q f r = more (r f) q
-      where
-        more : Last p xs k i → p (getD xs k 0) ≡ false → Last p xs (suc k) i
-        more l q = record { below = omega (arith, l .below); has = l .has; none = λ j g h. at-top j g h (decLt j k) }
-          where
-            at-top : (j : ℕ) → i < j → j < suc k → Dec (j < k) → p (getD xs j 0) ≡ false
-            at-top j g h (yes a) = l .none j g a
-            at-top j g h (no n) = let y : j ≡ k = omega arith in ap (λ (y : ℕ). p (getD xs y 0)) y ∙ q
-
-pub last-found : (p stop : ℕ → Bool) (s : Places) (i : ℕ) → lastWith p stop s ≡ At i → Last p (s .held) (length (s .held)) i
-unfolding lastWith
-last-found p stop s i e = down-last p stop (s .held) (length (s .held)) i e
-
--- the entry that was found stands nowhere after its place
-pub last-same : (p : ℕ → Bool) (s : Places) (i : ℕ) → Last p (s .held) (length (s .held)) i → Last (same (at s i)) (s .held) (length (s .held)) i
-unfolding at
-last-same p s i l =
-    record { below = l .below; has = eq-eqb (getD (s .held) i 0) (getD (s .held) i 0) refl; none = λ j g h. ne-eqb (getD (s .held) j 0) (getD (s .held) i 0) (λ e. differ j g h e) }
-  where
-    differ : (j : ℕ) → i < j → j < length (s .held) → getD (s .held) j 0 ≡ getD (s .held) i 0 → ⊥
-    differ j g h e =
-        let f : false ≡ true = sym (l .none j g h) ∙ ap p e ∙ l .has in
-        let z : _≡_ {A = ℕ} 0 1 = cc in
-        omega arith

@@ -21,7 +21,8 @@ use Rattle.state.specs.Full.{Full, refused, done, withStack, withList}
 use Rattle.standard.specs.Html.{isHtml}
 use Rattle.standard.specs.Small.{cleared}
 use Rattle.standard.specs.Stack.{isOf, named, isCell, inScope, isFound, isImplied, impliedEnds, impliedSet, badImplied, implied, withoutP, closedP, withoutCell, closedCell, badEndTag, endedAt, endTag, ended}
-use Rattle.stacks.proofs.Pops.{Last, cut-all, stays, stays-le, stays-past, while-is, last-found}
+use Rattle.places.proofs.Laws.{Last, last-found}
+use Rattle.stacks.proofs.Pops.{cut-all, stays, stays-le, stays-past, while-is}
 use Rattle.stacks.proofs.StackLaws.{html-parts, unlisted, or-cases, p-cut, cell-cut, end-cut}
 
 pub record Rooted (m : List ℕ) (s : Places) : Type 0 where

@@ -17,7 +17,7 @@ use Rattle.lent.specs.Mem.{field, KIND, SPACE, NAME, ELEMENT}
 use Rattle.places.specs.Places.{Places, Whole, placesOf, at, same, cut, down}
 use Rattle.places.specs.declared.Found.{Found}
 use Rattle.places.specs.declared.Found.the-variants.{At, Nothing}
-use Rattle.places.proofs.Laws.{at-of, whole-of, down-none, down-hit, down-stop, down-on, lastWith-of, lastWith-lt}
+use Rattle.places.proofs.Laws.{Last, whole-of, down-none, down-hit, down-stop, down-on, lastWith-of, lastWith-lt, last-found, last-same}
 use Rattle.state.specs.declared.Core.{Core}
 use Rattle.state.specs.declared.Context.{Context}
 use Rattle.state.specs.Fields.{setDepth}
@@ -26,11 +26,12 @@ use Rattle.standard.specs.Html.{isHtml, current}
 use Rattle.standard.specs.Small.{cleared}
 use Rattle.standard.specs.Stack.{isOf, named, isCell, inScope, isFound, shorter, whileTop, poppedWhile, poppedUntil, isImplied, impliedEnds, impliedSet, badImplied, implied, withoutP, closedP, withoutCell, closedCell, badEndTag, endedAt, endTag, ended}
 use Rattle.small.proofs.Laws.{size-of, stack-put}
+use Rattle.builder.proofs.InsertionLaws.{current-of}
 use Rattle.stacks.specs.declared.walk.Category.{Category}
 use Rattle.stacks.specs.declared.walk.Wanted.{Wanted}
 use Rattle.stacks.specs.declared.walk.Wanted.the-variants.{Node, Html, Cell}
 use Rattle.stacks.specs.Walk.{namesOf, wantedIn}
-use Rattle.stacks.proofs.Pops.{Last, closed-cut, last-found, last-same}
+use Rattle.stacks.proofs.Pops.{closed-cut}
 
 -- ---- elements
 
@@ -103,10 +104,6 @@ module _ (set : Names) (except : ℕ) (m : List ℕ) (n : ℕ) {b : Bool} (eb : 
   pub implied-name : {z : ℕ} → not b ≡ false → z ≡ field m n NAME → not (eqb z except) ≡ isImplied set except m n
   unfolding isImplied
   implied-name h ez = rw (sym eb ∙ not-false b h, ez)
-
-pub current-of : (s : List ℕ) (d : ℕ) → 0 < d → current (placesOf s d) ≡ getD s (d - 1) 0
-unfolding current placesOf
-current-of s d h = rw (size-of s d) (at-of s d (d - 1) (omega arith))
 
 while-zero : (p : ℕ → Bool) (s : Places) (k : ℕ) → k ≤ 0 → s ≡ whileTop p s k
 unfolding whileTop

@@ -11,6 +11,7 @@ use Rattle.names.specs.Sets.{isIn, Formatting, ButtonScope, TableScope}
 use Rattle.arena.specs.Room.{freeNodes, freePieces, freePairs}
 use Rattle.arena.specs.Make.{nodesOf}
 use Rattle.places.specs.Places.{Places}
+use Rattle.records.specs.declared.Record.{Record}
 use Rattle.state.specs.Full.{Full}
 use Rattle.standard.specs.Place.{textBefore}
 use Rattle.standard.specs.Pairs.{pairsIn}
@@ -19,7 +20,6 @@ use Rattle.standard.specs.Small.{room}
 use Rattle.standard.specs.Stack.{named, isCell, inScope, isFound, badEndTag, badImplied}
 use Rattle.standard.specs.Formatting.{firstLost, spared, badFormatting}
 use Rattle.standard.specs.Adoption.{entryOf, fewNodes}
-use Rattle.standard.specs.Step.{Asked}
 
 pub record Refusals : Type 0 where
   -- 2: unknown call, name, namespace, mode, kind or flag, a name the call does not take, bad attributes
@@ -81,7 +81,7 @@ module _ (f : Full) where
 unfoldable pub fullPlaces : ℕ → Places → Bool
 fullPlaces most l = not (ltb (l .size) (room most l))
 
-unfoldable pub elementRefusals : List ℕ → Full → Asked → Refusals
+unfoldable pub elementRefusals : List ℕ → Full → Record → Refusals
 elementRefusals s f r =
     refusals (badTag (r .a) (r .b) (r .c) || badPairs s (r .from) (r .count)) false
     (noNodes f (nodesOf (newTag f (r .a) (r .b) (r .c) (r .count)))) (pushes (r .c) && fullStack f) false false (noPairs f (r .count))
@@ -91,11 +91,11 @@ unfoldable pub textRefusals : Full → Refusals
 textRefusals f =
     refusals false false (eqb (textBefore (f .nodes .mem) (usualPlace f)) 0 && noNodes f 1) false false (noPieces f) false
 
-unfoldable pub commentRefusals : Full → Asked → Refusals
+unfoldable pub commentRefusals : Full → Record → Refusals
 commentRefusals f r = refusals (ltb 2 (r .a)) false (noNodes f 1) false false false false
 
 -- the place of an entry that goes counts as free
-unfoldable pub createRefusals : List ℕ → Full → Asked → Refusals
+unfoldable pub createRefusals : List ℕ → Full → Record → Refusals
 createRefusals s f r =
     refusals (badFormatting s (r .a) (r .from) (r .count)) false (noNodes f 1) (fullStack f)
     (fullPlaces 256 (spared f (newTag f space.html (r .a) 1 (r .count)) (pairsIn s (r .from) (r .count)))) false (noPairs f (r .count))
@@ -109,7 +109,7 @@ reconstructRefusals f =
     refusals false false (noNodes f (f .list .size - firstLost (f .stack) (f .list))) (ltb (512 - f .stack .size) (f .list .size - firstLost (f .stack) (f .list)))
     false false false
 
-unfoldable pub adoptionRefusals : Full → Asked → Refusals
+unfoldable pub adoptionRefusals : Full → Record → Refusals
 adoptionRefusals f r = refusals (not (isIn Formatting space.html (r .a))) false (fewNodes f) false false false false
 
 -- without an `a` after the last marker nothing is done, and no node is needed
@@ -129,12 +129,12 @@ closePRefusals f = onlyNothing (not (isFound (inScope ButtonScope (named (f .nod
 unfoldable pub closeCellRefusals : Full → Refusals
 closeCellRefusals f = onlyNothing (not (isFound (inScope TableScope (isCell (f .nodes .mem)) (f .nodes .mem) (f .stack))))
 
-unfoldable pub modeRefusals : Full → Asked → Refusals
+unfoldable pub modeRefusals : Full → Record → Refusals
 modeRefusals f r = refusals (eqb (r .a) 0 || ltb 21 (r .a)) false false false (fullPlaces 64 (f .modes)) false false
 
 -- ---- by number
 
-unfoldable pub highRefusals : Full → Asked → Refusals
+unfoldable pub highRefusals : Full → Record → Refusals
 highRefusals f r =
     cond (eqb (r .call) 14) (onlyNothing (ltb (f .stack .size) 2))
     (cond (eqb (r .call) 15) (onlyUnknown (ltb 1 (r .a)))
@@ -143,7 +143,7 @@ highRefusals f r =
     (cond (eqb (r .call) 18) (onlyUnknown (ltb 1 (r .a)))
     (onlyUnknown true)))))
 
-unfoldable pub middleRefusals : Full → Asked → Refusals
+unfoldable pub middleRefusals : Full → Record → Refusals
 middleRefusals f r =
     cond (eqb (r .call) 8) (adoptionRefusals f r)
     (cond (eqb (r .call) 9) (misnestedRefusals f)
@@ -153,7 +153,7 @@ middleRefusals f r =
     (cond (eqb (r .call) 13) (onlyUnknown (badImplied (r .a) (r .b)))
     (onlyUnknown true))))))
 
-unfoldable pub lowRefusals : List ℕ → Full → Asked → Refusals
+unfoldable pub lowRefusals : List ℕ → Full → Record → Refusals
 lowRefusals s f r =
     cond (eqb (r .call) 1) (elementRefusals s f r)
     (cond (eqb (r .call) 2) (textRefusals f)
@@ -164,5 +164,5 @@ lowRefusals s f r =
     (cond (eqb (r .call) 7) (reconstructRefusals f)
     (middleRefusals f r)))))))
 
-unfoldable pub refusalsOf : List ℕ → Asked → Full → Refusals
+unfoldable pub refusalsOf : List ℕ → Record → Full → Refusals
 refusalsOf s r f = cond (ltb (r .call) 14) (lowRefusals s f r) (highRefusals f r)

@@ -5,11 +5,12 @@ use mathlib.Core.List.{List}
 use mathlib.Core.Bool.{cond}
 use lib.ListN.{length}
 use lib.Dec.{ltb, eqb}
+use Rattle.records.specs.declared.Record.{Record}
 use Rattle.records.specs.declared.Item.{Item}
 use Rattle.records.specs.declared.Item.the-variants as is
 use Rattle.records.specs.Record.{itemAt}
 use Rattle.state.specs.Full.{Full, Result, refused}
-use Rattle.standard.specs.Step.{Asked, asked, step}
+use Rattle.standard.specs.Step.{step}
 
 -- the answer, how many records were done, and the state after them
 pub record Ran : Type 0 where
@@ -25,8 +26,8 @@ unfoldable pub unlessRefused : Result → ℕ → (Full → Ran) → Ran
 unlessRefused r n next = cond (eqb (r .answer) 0) (next (r .after)) (ran (r .answer) n (r .after))
 
 -- an unknown call answers 2, a record that is cut short or badly written 9
-unfoldable pub onItem : Item → ℕ → Full → (Asked → ℕ → Ran) → Ran
-onItem (is.Call k a b c from count next) n f go = go (asked k a b c from count) next
+unfoldable pub onItem : Item → ℕ → Full → (Record → ℕ → Ran) → Ran
+onItem (is.Call r next) n f go = go r next
 onItem is.Unknown n f go = ran 2 n f
 onItem is.Bad n f go = ran 9 n f
 
@@ -35,7 +36,7 @@ unfoldable pub runFor : ℕ → List ℕ → ℕ → ℕ → Full → Ran
 runFor zero s i n f = ran 0 n f
 runFor (suc k) s i n f =
     cond (ltb i (length s))
-    (onItem (itemAt s i) n f (λ (x : Asked) (next : ℕ). unlessRefused (step s x f) n (runFor k s next (n + 1))))
+    (onItem (itemAt s i) n f (λ (r : Record) (next : ℕ). unlessRefused (step s r f) n (runFor k s next (n + 1))))
     (ran 0 n f)
 
 -- a record has a byte at least, so there are no more records than bytes
@@ -47,7 +48,7 @@ runOf s f = runFrom s 0 0 f
 
 -- a single call, given as a record: the record at the front
 unfoldable pub onSingle : Item → List ℕ → Full → Result
-onSingle (is.Call k a b c from count next) s f = step s (asked k a b c from count) f
+onSingle (is.Call r next) s f = step s r f
 onSingle is.Unknown s f = refused 2 f
 onSingle is.Bad s f = refused 9 f
 

@@ -4,6 +4,7 @@ use Prim.Native.Nat.{ℕ}
 use mathlib.Core.Bool.{cond}
 use mathlib.Core.List.{List}
 use lib.Dec.{eqb, ltb}
+use Rattle.records.specs.declared.Record.{Record}
 use Rattle.state.specs.Full.{Full, Result, refused}
 use Rattle.standard.specs.Insertion.{inserted-element, inserted-text, inserted-comment}
 use Rattle.standard.specs.Small.{marked, cleared, popped, fostered, headed, moded, unmoded}
@@ -11,24 +12,12 @@ use Rattle.standard.specs.Stack.{ended, closedP, closedCell, implied}
 use Rattle.standard.specs.Formatting.{created, reconstructed}
 use Rattle.standard.specs.Adoption.{adoption, misnested}
 
--- the call's number, its arguments, and where in the record its pairs begin and how many they are
-pub record Asked : Type 0 where
-  pub call : ℕ
-  pub a : ℕ
-  pub b : ℕ
-  pub c : ℕ
-  pub from : ℕ
-  pub count : ℕ
-
-abbrev pub asked : ℕ → ℕ → ℕ → ℕ → ℕ → ℕ → Asked
-asked call a b c from count = record { call = call; a = a; b = b; c = c; from = from; count = count }
-
 -- an unknown call
 unfoldable pub unknown : Full → Result
 unknown f = refused 2 f
 
 -- calls 8 to 13
-unfoldable pub middleStep : Asked → Full → Result
+unfoldable pub middleStep : Record → Full → Result
 middleStep r f =
     cond (eqb (r .call) 8) (adoption f (r .a))
     (cond (eqb (r .call) 9) (misnested f)
@@ -39,7 +28,7 @@ middleStep r f =
     (unknown f))))))
 
 -- calls 1 to 13; s is the input that holds the record
-unfoldable pub lowStep : List ℕ → Asked → Full → Result
+unfoldable pub lowStep : List ℕ → Record → Full → Result
 lowStep s r f =
     cond (eqb (r .call) 1) (inserted-element s f (r .a) (r .b) (r .c) (r .from) (r .count))
     (cond (eqb (r .call) 2) (inserted-text f (r .a))
@@ -51,7 +40,7 @@ lowStep s r f =
     (middleStep r f)))))))
 
 -- calls 14 to 18
-unfoldable pub highStep : Asked → Full → Result
+unfoldable pub highStep : Record → Full → Result
 highStep r f =
     cond (eqb (r .call) 14) (popped f)
     (cond (eqb (r .call) 15) (fostered f (r .a))
@@ -60,5 +49,5 @@ highStep r f =
     (cond (eqb (r .call) 18) (headed f (r .a))
     (unknown f)))))
 
-unfoldable pub step : List ℕ → Asked → Full → Result
+unfoldable pub step : List ℕ → Record → Full → Result
 step s r f = cond (ltb (r .call) 14) (lowStep s r f) (highStep r f)

@@ -10,31 +10,24 @@ use Rattle.adoption.proofs.agency.adoption_agency.Reads as adoption-agency-read
 use Rattle.dispatch.proofs.apart.Reads as apart-reads
 use Rattle.dispatch.proofs.done_apart.Reads as done-apart-reads
 
--- src/lib.rt:129:9
 apart-requires : tie.Need-apart-requires
 apart-requires c κs = search needs
 
--- src/lib.rt:130:9
 adoption-agency-requires : tie.Need-adoption-agency-requires
 adoption-agency-requires c κs = rw ((c .before .before .before .apart) .ensures) (ready.ready-firm _ _ _ (c .before .before .before .before .before .before .before .pre), (c .before .before .before .before .before .before .before .pre) .some)
 
--- src/lib.rt:131:5
 done-apart-requires : tie.Need-done-apart-requires
 done-apart-requires c κs = search needs
 
--- src/lib.rt:125:1
 same-length : tie.Need-same-length
 same-length c = search needs
 
--- src/lib.rt:125:1
 same-length-2 : tie.Need-same-length-2
 same-length-2 c = search needs
 
--- src/lib.rt:125:1
 same-length-3 : tie.Need-same-length-3
 same-length-3 c = search needs
 
--- src/lib.rt:125:1
 returns : tie.Need-returns
 returns c = λ m p q x. rw ((c .done-apart) .ensures) (rw ((c .before .before .before .before .before .before .before .before .before .before .before .apart) .ensures) at ((c .before .before .before .before .before .before .before .adoption-agency) .ensures m p q x))
 

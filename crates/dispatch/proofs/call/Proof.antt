@@ -24,7 +24,7 @@ same-length-5 : tie.Need-same-length-5
 same-length-5 c = search needs
 
 returns : tie.Need-returns
-returns c = λ x. number.step-low _ _ _ _ _ _ _ _ ((c .before .before .before .before .before .before .before .before .before .before .before .before .before .before .before .before .if1) .taken) ((c .before .before .before .before .before .before .before .before .before .before .low) .ensures _ x)
+returns c = λ x. number.step-low _ _ _ ((c .before .before .before .before .before .before .before .before .before .before .before .before .before .before .before .before .if1) .taken) ((c .before .before .before .before .before .before .before .before .before .before .low) .ensures _ x)
 
 high-requires : tie.Need-high-requires
 high-requires c κs = search needs
@@ -36,7 +36,7 @@ same-length-7 : tie.Need-same-length-7
 same-length-7 c = search needs
 
 returns-2 : tie.Need-returns-2
-returns-2 c = λ x. number.step-high _ _ _ _ _ _ _ _ ((c .before .before .before .before .before .before .before .if1) .left) ((c .before .before .before .before .high) .ensures _ _ _ _ _ _ _ _ x)
+returns-2 c = λ x. number.step-high _ _ _ ((c .before .before .before .before .before .before .before .if1) .left) ((c .before .before .before .before .high) .ensures _ _ _ _ x)
 
 pub call-spec : {M : Type 1} → statement M
 call-spec =

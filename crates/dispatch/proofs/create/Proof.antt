@@ -9,35 +9,27 @@ use Rattle.dispatch.proofs.apart.Reads as apart-reads
 use Rattle.dispatch.proofs.done_apart.Reads as done-apart-reads
 use Rattle.formatting.proofs.create.create_formatting_element_for.Reads as create-formatting-element-for-reads
 
--- src/lib.rt:107:9
 apart-requires : tie.Need-apart-requires
 apart-requires c κs = search needs
 
--- src/lib.rt:108:9
 create-formatting-element-for-requires : tie.Need-create-formatting-element-for-requires
 create-formatting-element-for-requires c κs = rw ((c .before .before .before .before .apart) .ensures) (search needs)
 
--- src/lib.rt:109:5
 done-apart-requires : tie.Need-done-apart-requires
 done-apart-requires c κs = search needs
 
--- src/lib.rt:92:1
 same-length : tie.Need-same-length
 same-length c = search needs
 
--- src/lib.rt:92:1
 same-length-2 : tie.Need-same-length-2
 same-length-2 c = search needs
 
--- src/lib.rt:92:1
 same-length-3 : tie.Need-same-length-3
 same-length-3 c = search needs
 
--- src/lib.rt:92:1
 same-length-4 : tie.Need-same-length-4
 same-length-4 c = search needs
 
--- src/lib.rt:92:1
 returns : tie.Need-returns
 returns c = λ m w x. rw ((c .done-apart) .ensures) (rw ((c .before .before .before .before .before .before .before .before .before .before .before .before .before .before .apart) .ensures) at ((c .before .before .before .before .before .before .before .before .before .create-formatting-element-for) .ensures m w x))
 

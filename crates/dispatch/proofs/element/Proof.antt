@@ -9,31 +9,24 @@ use Rattle.builder.proofs.insertion.element.Reads as element-reads
 use Rattle.dispatch.proofs.apart.Reads as apart-reads
 use Rattle.dispatch.proofs.done_apart.Reads as done-apart-reads
 
--- src/lib.rt:87:9
 apart-requires : tie.Need-apart-requires
 apart-requires c κs = search needs
 
--- src/lib.rt:88:9
 element-requires : tie.Need-element-requires
 element-requires c κs = rw ((c .before .before .before .apart) .ensures) (search needs)
 
--- src/lib.rt:89:5
 done-apart-requires : tie.Need-done-apart-requires
 done-apart-requires c κs = search needs
 
--- src/lib.rt:71:1
 same-length : tie.Need-same-length
 same-length c = search needs
 
--- src/lib.rt:71:1
 same-length-2 : tie.Need-same-length-2
 same-length-2 c = search needs
 
--- src/lib.rt:71:1
 same-length-3 : tie.Need-same-length-3
 same-length-3 c = search needs
 
--- src/lib.rt:71:1
 returns : tie.Need-returns
 returns c = λ l m w x. rw ((c .done-apart) .ensures) (rw ((c .before .before .before .before .before .before .before .before .before .before .before .apart) .ensures) at ((c .before .before .before .before .before .before .before .element) .ensures l m w x))
 

@@ -36,10 +36,10 @@ enum-told-2 : tie.Need-enum-told-2
 enum-told-2 c = search needs
 
 returns-2 : tie.Need-returns-2
-returns-2 c = pairs-all _ _ _ _ _ _ ((c .before .before .before .before .before .before .before .before .pairs-of) .ensures) ((c .before .before .before .before .before .before .before .number-if) .ensures) ((c .before .before .before .before .before .count) .given .1) ((c .before .before .before .skip-numbers) .ensures) ((c .before .next) .given .1)
+returns-2 c = pairs-cut _ _ _ _ _ _ ((c .before .before .before .before .before .before .before .pairs-of) .ensures) ((c .before .before .before .before .before .before .number-if) .ensures) ((c .before .before .before .before .count) .given .1) ((c .before .before .skip-numbers) .ensures) ((c .enum-told2) .given .1)
 
 returns-3 : tie.Need-returns-3
-returns-3 c = pairs-cut _ _ _ _ _ _ ((c .before .before .before .before .before .before .before .pairs-of) .ensures) ((c .before .before .before .before .before .before .number-if) .ensures) ((c .before .before .before .before .count) .given .1) ((c .before .before .skip-numbers) .ensures) ((c .enum-told2) .given .1)
+returns-3 c = pairs-all _ _ _ _ _ _ ((c .before .before .before .before .before .before .before .before .pairs-of) .ensures) ((c .before .before .before .before .before .before .before .number-if) .ensures) ((c .before .before .before .before .before .count) .given .1) ((c .before .before .before .skip-numbers) .ensures) ((c .before .next) .given .1)
 
 pub pairs-at-spec : {M : Type 1} → statement M
 pairs-at-spec =

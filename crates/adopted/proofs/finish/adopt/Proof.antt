@@ -16,8 +16,8 @@ mul-block c = let le : (c .before .before .before .args) .core .depth ≤ length
 slice-read-block : tie.Need-slice-read-block
 slice-read-block c = let le : (c .before .before .before .before .args) .core .depth ≤ length ((c .before .before .before .before .args) .h .now) = of-whole _ _ ((c .before .before .before .before .pre) .0 .stack) in search needs
 
-above-requires : tie.Need-above-requires
-above-requires c κs = search needs
+previous-requires : tie.Need-previous-requires
+previous-requires c κs = search needs
 
 mul-ancestor : tie.Need-mul-ancestor
 mul-ancestor c = let le : (c .before .before .before .before .before .args) .core .depth ≤ length ((c .before .before .before .before .before .args) .h .now) = of-whole _ _ ((c .before .before .before .before .before .pre) .0 .stack) in search needs
@@ -41,7 +41,7 @@ same-length-3 : tie.Need-same-length-3
 same-length-3 c = search needs
 
 returns : tie.Need-returns
-returns c = (omega (arith, (c .before .before .before .before .before .before .before .before .before .before .before .before .before .before .before .before .walk-up) .ensures .0, (c .before .before .before .before .before .before .finish) .ensures .0), λ j m p q x e g. laws.adopted-is _ _ _ m p q x ((c .before .before .before .before .before .before .before .before .before .before .before .before .before .before .before .before .before .before .before .before .before .before .before .before .before .before .args) .core) _ _ _ ((c .before .before .before .before .before .before .before .before .before .before .before .before .before .before .before .before .before .before .before .before .before .before .before .before .before .before .pre) .1 .0) ((c .before .before .before .before .before .before .before .before .before .before .before .before .before .before .before .before .before .before .before .before .before .before .before .before .before .before .pre) .1 .1) ((c .before .before .before .before .before .before .before .before .before .before .before .before .before .before .before .before .before .before .before .before .before .above) .ensures) ((c .before .before .before .before .before .before .before .before .before .before .before .before .before .before .before .before .walk-up) .ensures .1 m p q x) ((c .before .before .before .before .before .before .finish) .ensures .1 m p q x) ∙ laws.adopted-same _ _ _ m p q x _ _ _ _ _ ((c .before .before .before .before .before .before .before .before .before .before .before .before .before .before .before .before .before .before .before .before .before .before .before .before .before .before .pre) .0) ((c .before .before .before .before .before .before .before .before .before .before .before .before .before .before .before .before .before .before .before .before .before .before .before .before .before .before .pre) .1 .0) ((c .before .before .before .before .before .before .before .before .before .before .before .before .before .before .before .before .before .before .before .before .before .before .before .before .before .before .pre) .1 .1) e g)
+returns c = (omega (arith, (c .before .before .before .before .before .before .before .before .before .before .before .before .before .before .before .before .walk-up) .ensures .0, (c .before .before .before .before .before .before .finish) .ensures .0), λ j m p q x e g. laws.adopted-is _ _ _ m p q x ((c .before .before .before .before .before .before .before .before .before .before .before .before .before .before .before .before .before .before .before .before .before .before .before .before .before .before .args) .core) _ _ _ ((c .before .before .before .before .before .before .before .before .before .before .before .before .before .before .before .before .before .before .before .before .before .before .before .before .before .before .pre) .1 .0) ((c .before .before .before .before .before .before .before .before .before .before .before .before .before .before .before .before .before .before .before .before .before .before .before .before .before .before .pre) .1 .1) ((c .before .before .before .before .before .before .before .before .before .before .before .before .before .before .before .before .before .before .before .before .before .previous) .ensures) ((c .before .before .before .before .before .before .before .before .before .before .before .before .before .before .before .before .walk-up) .ensures .1 m p q x) ((c .before .before .before .before .before .before .finish) .ensures .1 m p q x) ∙ laws.adopted-same _ _ _ m p q x _ _ _ _ _ ((c .before .before .before .before .before .before .before .before .before .before .before .before .before .before .before .before .before .before .before .before .before .before .before .before .before .before .pre) .0) ((c .before .before .before .before .before .before .before .before .before .before .before .before .before .before .before .before .before .before .before .before .before .before .before .before .before .before .pre) .1 .0) ((c .before .before .before .before .before .before .before .before .before .before .before .before .before .before .before .before .before .before .before .before .before .before .before .before .before .before .pre) .1 .1) e g)
 
 pub adopt-spec : {M : Type 1} → statement M
 adopt-spec =
@@ -49,7 +49,7 @@ adopt-spec =
     (tie.spec
     mul-block
     slice-read-block
-    above-requires
+    previous-requires
     mul-ancestor
     slice-read-ancestor
     walk-up-requires

@@ -20,8 +20,8 @@ shared-slice-read-t c = search needs
 get-requires : tie.Need-get-requires
 get-requires c κs = search needs
 
-below-requires : tie.Need-below-requires
-below-requires c κs = search needs
+previous-requires : tie.Need-previous-requires
+previous-requires c κs = search needs
 
 mul-t12 : tie.Need-mul-t12
 mul-t12 c = search needs
@@ -33,7 +33,7 @@ end-of-requires : tie.Need-end-of-requires
 end-of-requires c κs = search needs
 
 returns : tie.Need-returns
-returns c = (c .end-of) .ensures ∙ laws.table-loose _ _ _ (sym (at-of _ _ _ (omega arith))) ((c .before .before .before .before .get) .ensures) ((c .before .before .before .if1) .taken) (ap (λ (i : ℕ). getD ((c .before .before .before .before .before .before .before .before .args) .h .now) i 0) ((c .before .before .below) .ensures) ∙ sym (at-of ((c .before .before .before .before .before .before .before .before .args) .h .now) ((c .before .before .before .before .before .before .before .before .args) .depth) ((c .before .before .before .before .before .before .before .before .args) .i - 1) (omega arith)))
+returns c = (c .end-of) .ensures ∙ laws.table-loose _ _ _ (sym (at-of _ _ _ (omega arith))) ((c .before .before .before .before .get) .ensures) ((c .before .before .before .if1) .taken) (ap (λ (i : ℕ). getD ((c .before .before .before .before .before .before .before .before .args) .h .now) i 0) ((c .before .before .previous) .ensures) ∙ sym (at-of ((c .before .before .before .before .before .before .before .before .args) .h .now) ((c .before .before .before .before .before .before .before .before .args) .depth) ((c .before .before .before .before .before .before .before .before .args) .i - 1) (omega arith)))
 
 before-table-requires : tie.Need-before-table-requires
 before-table-requires c κs = search needs
@@ -48,7 +48,7 @@ table-place-spec =
     mul-t
     shared-slice-read-t
     get-requires
-    below-requires
+    previous-requires
     mul-t12
     shared-slice-read-t14
     end-of-requires

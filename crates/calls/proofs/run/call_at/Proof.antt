@@ -9,8 +9,8 @@ use Rattle.calls.proofs.run.call_at.Tie as tie
 item-at-requires : tie.Need-item-at-requires
 item-at-requires c κs = search needs
 
-enum-known-k : tie.Need-enum-known-k
-enum-known-k c = search needs
+enum-known-r : tie.Need-enum-known-r
+enum-known-r c = search needs
 
 call-requires : tie.Need-call-requires
 call-requires c κs = (sound-ready _ _ _ _ _ _ _ _ (c .before .before .before .before .before .before .before .before .before .before .before .before .before .before .before .before .before .pre), sound-modes _ _ _ _ _ _ _ _ (c .before .before .before .before .before .before .before .before .before .before .before .before .before .before .before .before .before .pre))
@@ -40,7 +40,7 @@ same-length-6 : tie.Need-same-length-6
 same-length-6 c = search needs
 
 returns : tie.Need-returns
-returns c = single-call _ _ ((c .before .before .before .before .before .before .before .before .before .before .before .before .before .before .before .before .before .before .before .before .before .before .item-at) .ensures) ((c .before .before .before .before .before .before .before .before .before .before .before .before .before .before .before .before .before .before .before .before .k) .given .1) ((c .before .before .before .before .before .before .before .before .before .before .before .before .call) .ensures _)
+returns c = single-call _ _ ((c .before .before .before .before .before .before .before .before .before .before .before .before .before .before .before .before .before .before .before .before .before .before .item-at) .ensures) ((c .before .before .before .before .before .before .before .before .before .before .before .before .before .before .before .before .before .before .before .before .r) .given .1) ((c .before .before .before .before .before .before .before .before .before .before .before .before .call) .ensures _)
 
 returns-2 : tie.Need-returns-2
 returns-2 c = single-unknown _ _ ((c .before .before .item-at) .ensures) ((c .enum-told) .given .1)
@@ -53,7 +53,7 @@ call-at-spec =
     tie.close
     (tie.spec
     item-at-requires
-    enum-known-k
+    enum-known-r
     call-requires
     enum-told
     enum-told-2

@@ -38,45 +38,51 @@ loop-holds c = ((λ x ok. (refl, ok)), omega arith, refl, refl, refl, refl, refl
 item-at-requires : tie.Need-item-at-requires Inv-loop μ-loop
 item-at-requires c κs = search needs
 
-enum-known-k : tie.Need-enum-known-k Inv-loop μ-loop
-enum-known-k c = search needs
+enum-known-r : tie.Need-enum-known-r Inv-loop μ-loop
+enum-known-r c = search needs
 
 call-requires : tie.Need-call-requires Inv-loop μ-loop
 call-requires c κs = (sound-ready _ _ _ _ _ _ _ _ (((c .before .before .before .before .before .before .before .before .before .before .before .loop) .inv .0 ((c .before .before .before .before .before .before .before .before .before .before .before .before .before .before .before .before .before .before .before .args) .context) (c .before .before .before .before .before .before .before .before .before .before .before .before .before .before .before .before .before .before .before .pre)) .1), sound-modes _ _ _ _ _ _ _ _ (((c .before .before .before .before .before .before .before .before .before .before .before .loop) .inv .0 ((c .before .before .before .before .before .before .before .before .before .before .before .before .before .before .before .before .before .before .before .args) .context) (c .before .before .before .before .before .before .before .before .before .before .before .before .before .before .before .before .before .before .before .pre)) .1))
 
+stopped-requires : tie.Need-stopped-requires Inv-loop μ-loop
+stopped-requires c κs = search needs
+
 same-length : tie.Need-same-length Inv-loop μ-loop
-same-length c = (c .before .before .before .before .before .before .before .before .before .before .before .before .before .before .before .call) .kept .0 ∙ (c .before .before .before .before .before .before .before .before .before .before .before .before .before .before .before .before .before .before .before .before .before .before .before .before .before .before .before .loop) .inv .2
+same-length c = (c .before .before .before .before .before .before .before .before .before .before .before .before .before .before .before .before .call) .kept .0 ∙ (c .before .before .before .before .before .before .before .before .before .before .before .before .before .before .before .before .before .before .before .before .before .before .before .before .before .before .before .before .loop) .inv .2
 
 same-length-2 : tie.Need-same-length-2 Inv-loop μ-loop
-same-length-2 c = (c .before .before .before .before .before .before .before .before .before .before .before .before .before .before .before .call) .kept .1 .1 .0 ∙ (c .before .before .before .before .before .before .before .before .before .before .before .before .before .before .before .before .before .before .before .before .before .before .before .before .before .before .before .loop) .inv .3
+same-length-2 c = (c .before .before .before .before .before .before .before .before .before .before .before .before .before .before .before .before .call) .kept .1 .1 .0 ∙ (c .before .before .before .before .before .before .before .before .before .before .before .before .before .before .before .before .before .before .before .before .before .before .before .before .before .before .before .before .loop) .inv .3
 
 same-length-3 : tie.Need-same-length-3 Inv-loop μ-loop
-same-length-3 c = (c .before .before .before .before .before .before .before .before .before .before .before .before .before .before .before .call) .kept .1 .1 .1 .0 ∙ (c .before .before .before .before .before .before .before .before .before .before .before .before .before .before .before .before .before .before .before .before .before .before .before .before .before .before .before .loop) .inv .4
+same-length-3 c = (c .before .before .before .before .before .before .before .before .before .before .before .before .before .before .before .before .call) .kept .1 .1 .1 .0 ∙ (c .before .before .before .before .before .before .before .before .before .before .before .before .before .before .before .before .before .before .before .before .before .before .before .before .before .before .before .before .loop) .inv .4
 
 same-length-4 : tie.Need-same-length-4 Inv-loop μ-loop
-same-length-4 c = (c .before .before .before .before .before .before .before .before .before .before .before .before .before .before .before .call) .kept .1 .1 .1 .1 .0 ∙ (c .before .before .before .before .before .before .before .before .before .before .before .before .before .before .before .before .before .before .before .before .before .before .before .before .before .before .before .loop) .inv .5
+same-length-4 c = (c .before .before .before .before .before .before .before .before .before .before .before .before .before .before .before .before .call) .kept .1 .1 .1 .1 .0 ∙ (c .before .before .before .before .before .before .before .before .before .before .before .before .before .before .before .before .before .before .before .before .before .before .before .before .before .before .before .before .loop) .inv .5
 
 same-length-5 : tie.Need-same-length-5 Inv-loop μ-loop
-same-length-5 c = (c .before .before .before .before .before .before .before .before .before .before .before .before .before .before .before .call) .kept .1 .1 .1 .1 .1 .0 ∙ (c .before .before .before .before .before .before .before .before .before .before .before .before .before .before .before .before .before .before .before .before .before .before .before .before .before .before .before .loop) .inv .6
+same-length-5 c = (c .before .before .before .before .before .before .before .before .before .before .before .before .before .before .before .before .call) .kept .1 .1 .1 .1 .1 .0 ∙ (c .before .before .before .before .before .before .before .before .before .before .before .before .before .before .before .before .before .before .before .before .before .before .before .before .before .before .before .before .loop) .inv .6
 
 same-length-6 : tie.Need-same-length-6 Inv-loop μ-loop
-same-length-6 c = (c .before .before .before .before .before .before .before .before .before .before .before .before .before .before .before .call) .kept .1 .1 .1 .1 .1 .1 .0 ∙ (c .before .before .before .before .before .before .before .before .before .before .before .before .before .before .before .before .before .before .before .before .before .before .before .before .before .before .before .loop) .inv .7
+same-length-6 c = (c .before .before .before .before .before .before .before .before .before .before .before .before .before .before .before .before .call) .kept .1 .1 .1 .1 .1 .1 .0 ∙ (c .before .before .before .before .before .before .before .before .before .before .before .before .before .before .before .before .before .before .before .before .before .before .before .before .before .before .before .before .loop) .inv .7
 
 returns : tie.Need-returns Inv-loop μ-loop
 unfolding runOf
-returns c = run-refused _ _ _ _ ((c .before .before .before .before .before .before .before .before .before .before .before .before .before .before .before .before .before .before .before .before .before .before .before .before .before .before .loop-test) .taken) (sym ((c .before .before .before .before .before .before .before .before .before .before .before .before .before .before .before .before .before .before .before .before .before .before .before .before .before .item-at) .ensures) ∙ (c .before .before .before .before .before .before .before .before .before .before .before .before .before .before .before .before .before .before .before .before .before .before .before .k) .given .1) ((c .before .before .before .before .before .before .before .before .before .before .before .before .before .before .before .call) .ensures _) ((c .if1) .taken) ∙ ((c .before .before .before .before .before .before .before .before .before .before .before .before .before .before .before .before .before .before .before .before .before .before .before .before .before .before .before .loop) .inv .0 ((c .before .before .before .before .before .before .before .before .before .before .before .before .before .before .before .before .before .before .before .before .before .before .before .before .before .before .before .before .before .before .before .before .before .before .before .args) .context) (c .before .before .before .before .before .before .before .before .before .before .before .before .before .before .before .before .before .before .before .before .before .before .before .before .before .before .before .before .before .before .before .before .before .before .before .pre)) .0
+returns c = rw ((c .stopped) .ensures .0, (c .stopped) .ensures .1, (c .stopped) .ensures .2) (run-refused _ _ _ _ ((c .before .before .before .before .before .before .before .before .before .before .before .before .before .before .before .before .before .before .before .before .before .before .before .before .before .before .before .loop-test) .taken) (sym ((c .before .before .before .before .before .before .before .before .before .before .before .before .before .before .before .before .before .before .before .before .before .before .before .before .before .before .item-at) .ensures) ∙ (c .before .before .before .before .before .before .before .before .before .before .before .before .before .before .before .before .before .before .before .before .before .before .before .before .r) .given .1) ((c .before .before .before .before .before .before .before .before .before .before .before .before .before .before .before .before .call) .ensures _) ((c .before .if1) .taken) ∙ ((c .before .before .before .before .before .before .before .before .before .before .before .before .before .before .before .before .before .before .before .before .before .before .before .before .before .before .before .before .loop) .inv .0 ((c .before .before .before .before .before .before .before .before .before .before .before .before .before .before .before .before .before .before .before .before .before .before .before .before .before .before .before .before .before .before .before .before .before .before .before .before .args) .context) (c .before .before .before .before .before .before .before .before .before .before .before .before .before .before .before .before .before .before .before .before .before .before .before .before .before .before .before .before .before .before .before .before .before .before .before .before .pre)) .0)
 
 add-n : tie.Need-add-n Inv-loop μ-loop
 add-n c = omega (arith, (c .before .before .before .before .before .before .before .before .before .before .before .before .before .before .before .before .before .before .before .before .before .before .before .before .before .before .before .loop) .inv .1, (c .before .before .before .before .before .before .before .before .before .before .before .before .before .before .before .before .before .before .before .before .before .before .before .before .before .before .loop-test) .taken, (c .before .before .before .before .before .before .before .before .before .before .before .before .before .before .before .before .before .before .before .before .before .before .before .before .before .before .before .before .before .before .before .before .before .before .before .good) .1 .1 .1 .1 .1 .1 .1 .1 .0 .0)
 
 loop-less : tie.Need-loop-less Inv-loop μ-loop
-loop-less c = omega (arith, (c .before .before .before .before .before .before .before .before .before .before .before .before .before .before .before .before .before .before .before .before .before .before .before .before .before .before .loop-test) .taken, item-past _ _ (sym ((c .before .before .before .before .before .before .before .before .before .before .before .before .before .before .before .before .before .before .before .before .before .before .before .before .before .item-at) .ensures) ∙ (c .before .before .before .before .before .before .before .before .before .before .before .before .before .before .before .before .before .before .before .before .before .before .before .k) .given .1))
+loop-less c = omega (arith, (c .before .before .before .before .before .before .before .before .before .before .before .before .before .before .before .before .before .before .before .before .before .before .before .before .before .before .loop-test) .taken, item-past _ _ (sym ((c .before .before .before .before .before .before .before .before .before .before .before .before .before .before .before .before .before .before .before .before .before .before .before .before .before .item-at) .ensures) ∙ (c .before .before .before .before .before .before .before .before .before .before .before .before .before .before .before .before .before .before .before .before .before .before .before .r) .given .1))
 
 loop-again : tie.Need-loop-again Inv-loop μ-loop
-loop-again c = ((λ x ok. let k = (c .before .before .before .before .before .before .before .before .before .before .before .before .before .before .before .before .before .before .before .before .before .before .before .before .before .before .before .loop) .inv .0 x ok in (run-more _ _ _ _ ((c .before .before .before .before .before .before .before .before .before .before .before .before .before .before .before .before .before .before .before .before .before .before .before .before .before .before .loop-test) .taken) (sym ((c .before .before .before .before .before .before .before .before .before .before .before .before .before .before .before .before .before .before .before .before .before .before .before .before .before .item-at) .ensures) ∙ (c .before .before .before .before .before .before .before .before .before .before .before .before .before .before .before .before .before .before .before .before .before .before .before .k) .given .1) ((c .before .before .before .before .before .before .before .before .before .before .before .before .before .before .before .call) .ensures x) ((c .if1) .left) ∙ k .0, after-sound _ _ _ (k .1) ((c .before .before .before .before .before .before .before .before .before .before .before .before .before .before .before .call) .ensures x))), omega (arith, (c .before .before .before .before .before .before .before .before .before .before .before .before .before .before .before .before .before .before .before .before .before .before .before .before .before .before .before .loop) .inv .1, item-past _ _ (sym ((c .before .before .before .before .before .before .before .before .before .before .before .before .before .before .before .before .before .before .before .before .before .before .before .before .before .item-at) .ensures) ∙ (c .before .before .before .before .before .before .before .before .before .before .before .before .before .before .before .before .before .before .before .before .before .before .before .k) .given .1)), (c .before .before .before .before .before .before .before .before .before .before .before .before .before .before .before .call) .kept .0 ∙ (c .before .before .before .before .before .before .before .before .before .before .before .before .before .before .before .before .before .before .before .before .before .before .before .before .before .before .before .loop) .inv .2, (c .before .before .before .before .before .before .before .before .before .before .before .before .before .before .before .call) .kept .1 .1 .0 ∙ (c .before .before .before .before .before .before .before .before .before .before .before .before .before .before .before .before .before .before .before .before .before .before .before .before .before .before .before .loop) .inv .3, (c .before .before .before .before .before .before .before .before .before .before .before .before .before .before .before .call) .kept .1 .1 .1 .0 ∙ (c .before .before .before .before .before .before .before .before .before .before .before .before .before .before .before .before .before .before .before .before .before .before .before .before .before .before .before .loop) .inv .4, (c .before .before .before .before .before .before .before .before .before .before .before .before .before .before .before .call) .kept .1 .1 .1 .1 .0 ∙ (c .before .before .before .before .before .before .before .before .before .before .before .before .before .before .before .before .before .before .before .before .before .before .before .before .before .before .before .loop) .inv .5, (c .before .before .before .before .before .before .before .before .before .before .before .before .before .before .before .call) .kept .1 .1 .1 .1 .1 .0 ∙ (c .before .before .before .before .before .before .before .before .before .before .before .before .before .before .before .before .before .before .before .before .before .before .before .before .before .before .before .loop) .inv .6, (c .before .before .before .before .before .before .before .before .before .before .before .before .before .before .before .call) .kept .1 .1 .1 .1 .1 .1 .0 ∙ (c .before .before .before .before .before .before .before .before .before .before .before .before .before .before .before .before .before .before .before .before .before .before .before .before .before .before .before .loop) .inv .7)
+loop-again c = ((λ x ok. let k = (c .before .before .before .before .before .before .before .before .before .before .before .before .before .before .before .before .before .before .before .before .before .before .before .before .before .before .before .loop) .inv .0 x ok in (run-more _ _ _ _ ((c .before .before .before .before .before .before .before .before .before .before .before .before .before .before .before .before .before .before .before .before .before .before .before .before .before .before .loop-test) .taken) (sym ((c .before .before .before .before .before .before .before .before .before .before .before .before .before .before .before .before .before .before .before .before .before .before .before .before .before .item-at) .ensures) ∙ (c .before .before .before .before .before .before .before .before .before .before .before .before .before .before .before .before .before .before .before .before .before .before .before .r) .given .1) ((c .before .before .before .before .before .before .before .before .before .before .before .before .before .before .before .call) .ensures x) ((c .if1) .left) ∙ k .0, after-sound _ _ _ (k .1) ((c .before .before .before .before .before .before .before .before .before .before .before .before .before .before .before .call) .ensures x))), omega (arith, (c .before .before .before .before .before .before .before .before .before .before .before .before .before .before .before .before .before .before .before .before .before .before .before .before .before .before .before .loop) .inv .1, item-past _ _ (sym ((c .before .before .before .before .before .before .before .before .before .before .before .before .before .before .before .before .before .before .before .before .before .before .before .before .before .item-at) .ensures) ∙ (c .before .before .before .before .before .before .before .before .before .before .before .before .before .before .before .before .before .before .before .before .before .before .before .r) .given .1)), (c .before .before .before .before .before .before .before .before .before .before .before .before .before .before .before .call) .kept .0 ∙ (c .before .before .before .before .before .before .before .before .before .before .before .before .before .before .before .before .before .before .before .before .before .before .before .before .before .before .before .loop) .inv .2, (c .before .before .before .before .before .before .before .before .before .before .before .before .before .before .before .call) .kept .1 .1 .0 ∙ (c .before .before .before .before .before .before .before .before .before .before .before .before .before .before .before .before .before .before .before .before .before .before .before .before .before .before .before .loop) .inv .3, (c .before .before .before .before .before .before .before .before .before .before .before .before .before .before .before .call) .kept .1 .1 .1 .0 ∙ (c .before .before .before .before .before .before .before .before .before .before .before .before .before .before .before .before .before .before .before .before .before .before .before .before .before .before .before .loop) .inv .4, (c .before .before .before .before .before .before .before .before .before .before .before .before .before .before .before .call) .kept .1 .1 .1 .1 .0 ∙ (c .before .before .before .before .before .before .before .before .before .before .before .before .before .before .before .before .before .before .before .before .before .before .before .before .before .before .before .loop) .inv .5, (c .before .before .before .before .before .before .before .before .before .before .before .before .before .before .before .call) .kept .1 .1 .1 .1 .1 .0 ∙ (c .before .before .before .before .before .before .before .before .before .before .before .before .before .before .before .before .before .before .before .before .before .before .before .before .before .before .before .loop) .inv .6, (c .before .before .before .before .before .before .before .before .before .before .before .before .before .before .before .call) .kept .1 .1 .1 .1 .1 .1 .0 ∙ (c .before .before .before .before .before .before .before .before .before .before .before .before .before .before .before .before .before .before .before .before .before .before .before .before .before .before .before .loop) .inv .7)
 
 enum-told : tie.Need-enum-told Inv-loop μ-loop
 enum-told c = search needs
+
+stopped-requires-2 : tie.Need-stopped-requires-2 Inv-loop μ-loop
+stopped-requires-2 c κs = search needs
 
 same-length-7 : tie.Need-same-length-7 Inv-loop μ-loop
 same-length-7 c = search needs
@@ -98,10 +104,13 @@ same-length-12 c = search needs
 
 returns-2 : tie.Need-returns-2 Inv-loop μ-loop
 unfolding runOf
-returns-2 c = run-unknown _ _ _ _ ((c .before .before .before .loop-test) .taken) (sym ((c .before .before .item-at) .ensures) ∙ (c .enum-told) .given .1) ∙ ((c .before .before .before .before .loop) .inv .0 ((c .before .before .before .before .before .before .before .before .before .before .before .before .args) .context) (c .before .before .before .before .before .before .before .before .before .before .before .before .pre)) .0
+returns-2 c = rw ((c .stopped2) .ensures .0, (c .stopped2) .ensures .1, (c .stopped2) .ensures .2) (run-unknown _ _ _ _ ((c .before .before .before .before .loop-test) .taken) (sym ((c .before .before .before .item-at) .ensures) ∙ (c .before .enum-told) .given .1) ∙ ((c .before .before .before .before .before .loop) .inv .0 ((c .before .before .before .before .before .before .before .before .before .before .before .before .before .args) .context) (c .before .before .before .before .before .before .before .before .before .before .before .before .before .pre)) .0)
 
 enum-told-2 : tie.Need-enum-told-2 Inv-loop μ-loop
 enum-told-2 c = search needs
+
+stopped-requires-3 : tie.Need-stopped-requires-3 Inv-loop μ-loop
+stopped-requires-3 c κs = search needs
 
 same-length-13 : tie.Need-same-length-13 Inv-loop μ-loop
 same-length-13 c = search needs
@@ -123,7 +132,10 @@ same-length-18 c = search needs
 
 returns-3 : tie.Need-returns-3 Inv-loop μ-loop
 unfolding runOf
-returns-3 c = run-bad _ _ _ _ ((c .before .before .before .loop-test) .taken) (sym ((c .before .before .item-at) .ensures) ∙ (c .enum-told2) .given .1) ∙ ((c .before .before .before .before .loop) .inv .0 ((c .before .before .before .before .before .before .before .before .before .before .before .before .args) .context) (c .before .before .before .before .before .before .before .before .before .before .before .before .pre)) .0
+returns-3 c = rw ((c .stopped3) .ensures .0, (c .stopped3) .ensures .1, (c .stopped3) .ensures .2) (run-bad _ _ _ _ ((c .before .before .before .before .loop-test) .taken) (sym ((c .before .before .before .item-at) .ensures) ∙ (c .before .enum-told2) .given .1) ∙ ((c .before .before .before .before .before .loop) .inv .0 ((c .before .before .before .before .before .before .before .before .before .before .before .before .before .args) .context) (c .before .before .before .before .before .before .before .before .before .before .before .before .before .pre)) .0)
+
+stopped-requires-4 : tie.Need-stopped-requires-4 Inv-loop μ-loop
+stopped-requires-4 c κs = search needs
 
 same-length-19 : tie.Need-same-length-19 Inv-loop μ-loop
 same-length-19 c = search needs
@@ -145,7 +157,7 @@ same-length-24 c = search needs
 
 returns-4 : tie.Need-returns-4 Inv-loop μ-loop
 unfolding runOf
-returns-4 c = run-end _ _ _ _ ((c .loop-test) .left) ∙ ((c .before .loop) .inv .0 ((c .before .before .before .before .before .before .before .before .before .args) .context) (c .before .before .before .before .before .before .before .before .before .pre)) .0
+returns-4 c = rw ((c .stopped4) .ensures .0, (c .stopped4) .ensures .1, (c .stopped4) .ensures .2) (run-end _ _ _ _ ((c .before .loop-test) .left) ∙ ((c .before .before .loop) .inv .0 ((c .before .before .before .before .before .before .before .before .before .before .args) .context) (c .before .before .before .before .before .before .before .before .before .before .pre)) .0)
 
 pub run-all-spec : {M : Type 1} → statement M
 run-all-spec =
@@ -155,8 +167,9 @@ run-all-spec =
     μ-loop
     loop-holds
     item-at-requires
-    enum-known-k
+    enum-known-r
     call-requires
+    stopped-requires
     same-length
     same-length-2
     same-length-3
@@ -168,6 +181,7 @@ run-all-spec =
     loop-less
     loop-again
     enum-told
+    stopped-requires-2
     same-length-7
     same-length-8
     same-length-9
@@ -176,6 +190,7 @@ run-all-spec =
     same-length-12
     returns-2
     enum-told-2
+    stopped-requires-3
     same-length-13
     same-length-14
     same-length-15
@@ -183,6 +198,7 @@ run-all-spec =
     same-length-17
     same-length-18
     returns-3
+    stopped-requires-4
     same-length-19
     same-length-20
     same-length-21

@@ -1,29 +1,23 @@
--- `saved::load::pairs` meets its contract.
+-- `saved::load::slots` meets its contract.
 -- Assumes nothing.
 use borrow.Author.Needs.{needs}
 use Prim.Native.Nat.{_≤_, _-_}
 use mathlib.Core.Path.{_≡_}
 use lib.ListN.{length}
-use Rattle.saved.proofs.load.pairs.Statement.{statement}
-use Rattle.saved.proofs.load.pairs.Tie as tie
+use Rattle.saved.proofs.load.slots.Statement.{statement}
+use Rattle.saved.proofs.load.slots.Tie as tie
 
 abbrev Inv-loop : tie.InvT-loop
-Inv-loop s from mem₀ count total k₀ mem k = (k ≤ total) × (length mem ≡ length mem₀)
+Inv-loop s from of mem₀ count total k₀ mem k = (k ≤ total) × (length mem ≡ length mem₀)
 
 abbrev μ-loop : tie.MeasureT-loop
-μ-loop s from mem₀ count total k₀ mem k = total - k
+μ-loop s from of mem₀ count total k₀ mem k = total - k
 
-least-requires : tie.Need-least-requires Inv-loop μ-loop
-least-requires c κs = search needs
-
-mul-total : tie.Need-mul-total Inv-loop μ-loop
-mul-total c = search needs
+words-requires : tie.Need-words-requires Inv-loop μ-loop
+words-requires c κs = search needs
 
 loop-holds : tie.Need-loop-holds Inv-loop μ-loop
 loop-holds c = search needs
-
-cast-put-pair : tie.Need-cast-put-pair Inv-loop μ-loop
-cast-put-pair c = search needs
 
 sum-requires : tie.Need-sum-requires Inv-loop μ-loop
 sum-requires c κs = search needs
@@ -31,8 +25,8 @@ sum-requires c κs = search needs
 word-requires : tie.Need-word-requires Inv-loop μ-loop
 word-requires c κs = search needs
 
-put-pair-requires : tie.Need-put-pair-requires Inv-loop μ-loop
-put-pair-requires c κs = search needs
+put-requires : tie.Need-put-requires Inv-loop μ-loop
+put-requires c κs = search needs
 
 add-k : tie.Need-add-k Inv-loop μ-loop
 add-k c = search needs
@@ -43,27 +37,29 @@ loop-less c = search needs
 loop-again : tie.Need-loop-again Inv-loop μ-loop
 loop-again c = search needs
 
+sum-requires-2 : tie.Need-sum-requires-2 Inv-loop μ-loop
+sum-requires-2 c κs = search needs
+
 same-length : tie.Need-same-length Inv-loop μ-loop
 same-length c = search needs
 
 returns : tie.Need-returns Inv-loop μ-loop
 returns c = search needs
 
-pub pairs-spec : {M : Type 1} → statement M
-pairs-spec =
+pub slots-spec : {M : Type 1} → statement M
+slots-spec =
     tie.close
     (tie.spec
     Inv-loop
     μ-loop
-    least-requires
-    mul-total
+    words-requires
     loop-holds
-    cast-put-pair
     sum-requires
     word-requires
-    put-pair-requires
+    put-requires
     add-k
     loop-less
     loop-again
+    sum-requires-2
     same-length
     returns)

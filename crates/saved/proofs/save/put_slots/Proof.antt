@@ -1,32 +1,23 @@
--- `saved::save::put_nodes` meets its contract.
+-- `saved::save::put_slots` meets its contract.
 -- Assumes nothing.
 use borrow.Author.Needs.{needs}
 use Prim.Native.Nat.{_≤_, _-_}
 use mathlib.Core.Path.{_≡_}
 use lib.ListN.{length}
-use Rattle.saved.proofs.save.put_nodes.Statement.{statement}
-use Rattle.saved.proofs.save.put_nodes.Tie as tie
+use Rattle.saved.proofs.save.put_slots.Statement.{statement}
+use Rattle.saved.proofs.save.put_slots.Tie as tie
 
 abbrev Inv-loop : tie.InvT-loop
-Inv-loop mem count out₀ at total p₀ k₀ out p k = (k ≤ total) × (length out ≡ length out₀)
+Inv-loop of mem count out₀ at total p₀ k₀ out p k = (k ≤ total) × (length out ≡ length out₀)
 
 abbrev μ-loop : tie.MeasureT-loop
-μ-loop mem count out₀ at total p₀ k₀ out p k = total - k
+μ-loop of mem count out₀ at total p₀ k₀ out p k = total - k
 
-least-requires : tie.Need-least-requires Inv-loop μ-loop
-least-requires c κs = search needs
-
-mul-total : tie.Need-mul-total Inv-loop μ-loop
-mul-total c = search needs
+words-requires : tie.Need-words-requires Inv-loop μ-loop
+words-requires c κs = search needs
 
 loop-holds : tie.Need-loop-holds Inv-loop μ-loop
 loop-holds c = search needs
-
-add-t13 : tie.Need-add-t13 Inv-loop μ-loop
-add-t13 c = search needs
-
-cast-t14 : tie.Need-cast-t14 Inv-loop μ-loop
-cast-t14 c = search needs
 
 get-requires : tie.Need-get-requires Inv-loop μ-loop
 get-requires c κs = search needs
@@ -49,17 +40,14 @@ same-length c = search needs
 returns : tie.Need-returns Inv-loop μ-loop
 returns c = search needs
 
-pub put-nodes-spec : {M : Type 1} → statement M
-put-nodes-spec =
+pub put-slots-spec : {M : Type 1} → statement M
+put-slots-spec =
     tie.close
     (tie.spec
     Inv-loop
     μ-loop
-    least-requires
-    mul-total
+    words-requires
     loop-holds
-    add-t13
-    cast-t14
     get-requires
     put-word-requires
     add-k
