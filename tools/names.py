@@ -265,7 +265,7 @@ use mathlib.Core.List.{{List, [], _∷_, map}}
 use Prim.Native.String.{{String}}
 use Rattle.names.specs.Text.{{text}}
 use Rattle.names.specs.Table.{{names}}
-use Rattle.names.specs.Numbers.{{bytesOf, numberOf}}
+use Rattle.names.specs.Numbers.{{numberOf}}
 use Rattle.names.specs.Tags.{{allTags}}
 
 abbrev pub called : List String
@@ -276,10 +276,6 @@ called =
 pub tied : map (λ (s : String). numberOf (text s)) called ≡ allTags
 unfolding names text
 tied = refl
-
-pub tied-back : map bytesOf allTags ≡ map text called
-unfolding names text
-tied-back = refl
 '''
 
 

@@ -21,7 +21,7 @@ use Rattle.standard.specs.Place.{appropriatePlace, attached}
 use Rattle.standard.specs.Adoption.{placedAt, rehung}
 use Rattle.standard.specs.Adoption as def
 use Rattle.small.proofs.Laws.{size-of, all-put}
-use Rattle.builder.proofs.InsertionLaws.{fresh-is}
+use Rattle.arena.proofs.Lowest.{fresh-is}
 use Rattle.adopted.specs.declared.bookmark.Bookmark.{Bookmark}
 use Rattle.adopted.specs.declared.bookmark.Bookmark.the-variants.{Replace, InsertAfter}
 use Rattle.adopted.specs.Bookmark.{Inner, innerAt, inner, started, relisted, finished, adopted}

@@ -1,21 +1,22 @@
 -- What the adoption agency relies on (`specs/Firm.antt`) holds after a round too, for one round less.
 -- Assumes nothing.
-use Prim.Native.Nat.{ℕ, zero, suc, _+_, _-_, _*_, _≤_, _<_}
+use Prim.Native.Nat.{ℕ, zero, suc, _+_, _*_, _≤_, _<_}
 use mathlib.Core.Path.{_≡_, refl}
 use mathlib.Core.Logic.{_⊎_, inl, inr}
 use mathlib.Core.Bool.{Bool, true, false, cond}
 use mathlib.Core.List.{List, _++_}
 use native.Mathlib.Omega.{arith}
 use lib.Dec.{eqb, ltb}
-use lib.ListN.{length, getD, take, drop, length-append, length-take, length-drop, length-set}
+use lib.ListN.{length, take, drop, length-append, length-take, length-drop, length-set}
 use Rattle.names.specs.Sets.{DefaultScope, Special}
 use Rattle.places.specs.Places.{Places, at, same, without, swapped, placeOf, exchanged}
 use Rattle.places.specs.declared.Found.{Found}
 use Rattle.places.specs.declared.Found.the-variants.{At, Nothing}
+use Rattle.places.proofs.First.{first-from}
 use Rattle.state.specs.Full.{Full, withStack, withList, withNodes}
 use Rattle.standard.specs.Small.{MARKER}
 use Rattle.standard.specs.Stack.{isOf, inScope}
-use Rattle.standard.specs.Adoption.{entryOf, specialFrom, furthestOf, Inner, leftStack, leftBoth, renewedIn, renewedAt, turnAt, turned, inner, relisted, finished, started, adopted, blockAt, blocked, scopeAt, scoped, openAt, opened, entryAt, rounded}
+use Rattle.standard.specs.Adoption.{entryOf, furthestOf, Inner, leftStack, leftBoth, renewedIn, renewedAt, turnAt, turned, inner, relisted, finished, started, adopted, blockAt, blocked, scopeAt, scoped, openAt, opened, entryAt, rounded}
 use Rattle.adopted.specs.Firm.{Firm}
 use Rattle.adopted.proofs.Position.{place-last, entry-lt}
 use Rattle.adopted.proofs.Bound.{rounded-more}
@@ -44,10 +45,6 @@ firm-held s l n k f =
 pub held-firm : (s l : Places) (n k : ℕ) → Held s l n → n + 4 * k ≤ 4096 → Firm s l n k
 held-firm s l n k h r =
     record { stack = h .stack .whole; list = h .list .whole; used = h .stack .each .has; listed = h .list .each .has; room = r }
-
--- fewer rounds
-pub firm-less : (s l : Places) (n k : ℕ) → Firm s l n (suc k) → Firm s l n k
-firm-less s l n k f = held-firm s l n k (firm-held s l n (suc k) f) (omega (arith, f .room))
 
 listed-more : (n m x : ℕ) → n ≤ m → Listed n x → Listed m x
 listed-more n m x h (inl a) = inl (omega arith)
@@ -133,26 +130,17 @@ adopted-held f fe s j b h x =
           list = holds-relisted (Listed (n + 1)) (w .full .list) (w .mark) fe (n + 1) (inl (omega arith)) (m .list);
         }
 
-special-lt : (m xs : List ℕ) (k n b : ℕ) → specialFrom m xs k n ≡ At b → b < k + n
-unfolding specialFrom
-special-lt m xs k zero b e = absurd (let z : _≡_ {A = ℕ} 0 1 = cc in omega arith)
-special-lt m xs k (suc n) b e = by (isOf Special m (getD xs k 0)) e (special-lt m xs (k + 1) n b)
-  where
-    by : (o : Bool) → cond o (At k) (specialFrom m xs (k + 1) n) ≡ At b → (specialFrom m xs (k + 1) n ≡ At b → b < k + 1 + n) → b < k + suc n
-    by true g r = let z : k ≡ b = cc in omega arith
-    by false g r = omega (arith, r g)
-
 -- 4.7: what is found is in the stack
-pub furthest-lt : (m : List ℕ) (stack : Places) (s b : ℕ) → s < length (stack .held) → furthestOf m stack s ≡ At b → b < length (stack .held)
+pub furthest-lt : (m : List ℕ) (stack : Places) (s b : ℕ) → furthestOf m stack s ≡ At b → b < length (stack .held)
 unfolding furthestOf
-furthest-lt m stack s b h e = omega (arith, special-lt m (stack .held) (s + 1) (length (stack .held) - (s + 1)) b e)
+furthest-lt m stack s b e = first-from (isOf Special m) (stack .held) (s + 1) b e .below
 
 block-held : (q : Found) (f : Full) (fe s j : ℕ) → furthestOf (f .nodes .mem) (f .stack) s ≡ q → s < length (f .stack .held) → j < length (f .list .held)
     → Kept f → Kept (blockAt q f fe s j .after)
 unfolding Kept blockAt withStack withList
 block-held Nothing f fe s j e h g x =
     record { stack = holds-cut (Used (f .nodes .used)) (f .stack) s (omega arith) (x .stack); list = holds-without (Listed (f .nodes .used)) (f .list) j g (x .list) }
-block-held (At b) f fe s j e h g x = adopted-held f fe s j b (furthest-lt (f .nodes .mem) (f .stack) s b h e) x
+block-held (At b) f fe s j e h g x = adopted-held f fe s j b (furthest-lt (f .nodes .mem) (f .stack) s b e) x
 
 scope-held : (q : Found) (f : Full) (fe s j : ℕ) → s < length (f .stack .held) → j < length (f .list .held) → Kept f → Kept (scopeAt q f fe s j .after)
 unfolding scopeAt blocked

@@ -11,7 +11,7 @@ use lib.ListN.{length, getD, take, drop, set, length-append, length-take, length
 use lib.Seq.{getD-append-add, getD-drop, getD-take, getD-set-same, getD-set-other, length-take-le}
 use borrow.Author.Tests.{eqb-true, eqb-false}
 use Rattle.names.specs.Sets.{Special}
-use Rattle.places.specs.Places.{Places, Whole, without, within, swapped, cut, placeOf, afterAt, exchangedAt, exchanged, left, leftAt}
+use Rattle.places.specs.Places.{Places, Whole, without, within, swapped, cut, placeOf, afterAt, exchangedAt, exchanged}
 use Rattle.places.specs.declared.Found.{Found}
 use Rattle.places.specs.declared.Found.the-variants.{At, Nothing}
 use Rattle.standard.specs.Stack.{isOf, named, inScope, endedAt, endTag}
@@ -100,14 +100,6 @@ module _ (P : ℕ → Type 0) where
       by : (q : Found) → placeOf p f ≡ q → Holds P (exchangedAt q p y n)
       by Nothing e = x
       by (At j) e = holds-after (placeOf (without p j) y) (without p j) n a (holds-without p j (place-last p f j e .below) x)
-
-  pub holds-left : (p : Places) (n : ℕ) → Holds P p → Holds P (left p n)
-  unfolding left leftAt
-  holds-left p n x = by (placeOf p n) refl
-    where
-      by : (q : Found) → placeOf p n ≡ q → Holds P (leftAt q p)
-      by Nothing e = x
-      by (At j) e = holds-without p j (place-last p n j e .below) x
 
   pub holds-relisted : (p : Places) (k fe n : ℕ) → P n → Holds P p → Holds P (relisted k p fe n)
   unfolding relisted atMark

@@ -243,4 +243,4 @@ same-round f name s j b k x e g h =
     (entry-last (f .nodes .mem) (f .list) name j e)
     (place-at (f .stack) (at (f .list) j) s g)
     lt
-    (furthest-lt (f .nodes .mem) (f .stack) s b lt h)
+    (furthest-lt (f .nodes .mem) (f .stack) s b h)

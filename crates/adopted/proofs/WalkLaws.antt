@@ -20,7 +20,7 @@ use Rattle.state.specs.Full.{Full, full, withStack, withList}
 use Rattle.standard.specs.Place.{node}
 use Rattle.standard.specs.Adoption.{leftStack, leftBoth, renewed, renewedIn}
 use Rattle.small.proofs.Laws.{stack-put, all-put, depth-stays, list-stays}
-use Rattle.builder.proofs.InsertionLaws.{fresh-is}
+use Rattle.arena.proofs.Lowest.{fresh-is}
 use Rattle.adopted.specs.declared.bookmark.Bookmark.{Bookmark}
 use Rattle.adopted.specs.declared.bookmark.Bookmark.the-variants.{Replace, InsertAfter}
 use Rattle.adopted.specs.Bookmark.{Inner, innerAt, markOf, renewedAt, turnAt, turned, inner, started}

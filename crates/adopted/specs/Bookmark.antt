@@ -3,8 +3,7 @@
 -- position, as in the standard; `proofs/Simulation.antt` shows that both give the same state.
 -- Assumes nothing.
 use Prim.Native.Nat.{ℕ, zero, suc, _+_, _-_}
-use mathlib.Core.Bool.{Bool, true, false, cond}
-use mathlib.Core.List.{List}
+use mathlib.Core.Bool.{cond}
 use lib.Dec.{eqb, ltb}
 use Rattle.places.specs.Places.{Places, at, placeOf, exchanged, renamed}
 use Rattle.places.specs.declared.Found.{Found}

@@ -1,20 +1,16 @@
 -- Ancestors after each operation. Going up leads from contents to their template, else to the parent.
 -- Assumes nothing.
-use Prim.Native.Nat.{ℕ, zero, suc, _≤_, _<_}
-use mathlib.Core.Path.{_≡_, refl, sym, ap, _∙_}
-use mathlib.Core.Logic.{_≢_, _⊎_, inl, inr, _↔_}
-use mathlib.Core.Bool.{Bool, true, false, cond}
-use mathlib.Core.List.{List, [], _∷_, _++_}
+use Prim.Native.Nat.{ℕ, _≤_, _<_}
+use mathlib.Core.Path.{_≡_, refl, sym, _∙_}
+use mathlib.Core.Logic.{_≢_, _⊎_, _↔_}
+use mathlib.Core.List.{List, _∷_, _++_}
 use native.Mathlib.Omega.{arith}
-use native.Mathlib.Decide.{ℕ-discrete}
 use borrow.Author.Tests.{eq-eqb, ne-eqb}
-use lib.Dec.{eqb, ltb}
 use Rattle.theory.specs.Fn.{Upd}
-use Rattle.theory.specs.Ord.{Wrap}
 use Rattle.theory.specs.Natural.{Anc}
 use Rattle.theory.specs.Anc as anc
 use Rattle.theory.specs.Anc.{Reach}
-use Rattle.lent.specs.Mem.{NODES, slots, field, KIND, PARENT, TIE, CONTENTS, up}
+use Rattle.lent.specs.Mem.{field, KIND, PARENT, TIE, CONTENTS, up}
 use Rattle.arena.specs.Links.{appended, detached, inserted, moved}
 use Rattle.arena.proofs.Children.{Forest, appended-parents, detached-parents, inserted-parents, moved-parents}
 use Rattle.arena.proofs.Others.{NoLink, appended-field, inserted-field, detached-field, moved-field}

@@ -1,10 +1,10 @@
 -- The operations on links, on lists of children: `Forest m c kids` says that the nodes 1 to c of the memory m have the children `kids`.
 -- After append, insert before, detach and move, the lists of the nodes concerned change as the names say, and no other list does.
 -- Assumes nothing.
-use Prim.Native.Nat.{ℕ, zero, suc, _+_, _≤_, _<_, min}
+use Prim.Native.Nat.{ℕ, _≤_, _<_}
 use mathlib.Core.Path.{_≡_, refl, sym, ap, _∙_}
 use mathlib.Core.Logic.{_≢_, _⊎_, inl, inr}
-use mathlib.Core.Bool.{Bool, true, false, cond}
+use mathlib.Core.Bool.{true}
 use mathlib.Core.List.{List, [], _∷_, _++_, append-nil}
 use native.Mathlib.Omega.{arith}
 use native.Mathlib.Decide.{ℕ-discrete}
@@ -13,10 +13,10 @@ use lib.ListN.{length}
 use borrow.Author.Tests.{lt-ltb}
 use Rattle.theory.specs.Fn.{In, Upd, put, put-upd}
 use Rattle.theory.specs.Kids as kids
-use Rattle.theory.specs.Kids.{Mem, hd, lst, Run, Kids, Fresh, run-in, run-part, lst-or, hd-or}
+use Rattle.theory.specs.Kids.{hd, lst, Run, Kids, run-in, run-part, lst-or, hd-or}
 use Rattle.theory.specs.Pigeon.{Once, Within, pigeon, kids-walk}
 use Rattle.theory.specs.Stores as stores
-use Rattle.lent.specs.Mem.{NODES, slots, inside, field, putField, PARENT, PREV, NEXT, FIRST, LAST}
+use Rattle.lent.specs.Mem.{NODES, slots, inside, field, PARENT, PREV, NEXT, FIRST, LAST}
 use Rattle.arena.specs.Links.{appended, detached, inserted, spliced, moved}
 use Rattle.lent.specs.Tree as tree
 use Rattle.lent.specs.Tree.{children}

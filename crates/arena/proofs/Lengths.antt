@@ -1,13 +1,12 @@
 -- No operation changes how much is lent, and so how many nodes there can be.
 -- Assumes nothing.
-use Prim.Native.Nat.{ℕ, zero, suc, _*_, _/_, min}
-use mathlib.Core.Path.{_≡_, refl, sym, ap, _∙_}
+use Prim.Native.Nat.{ℕ, zero, suc}
+use mathlib.Core.Path.{_≡_, refl, _∙_}
 use mathlib.Core.Bool.{Bool, true, false, cond}
 use mathlib.Core.List.{List}
-use native.Mathlib.Decide.{ℕ-discrete}
 use lib.ListN.{length}
 use lib.Dec.{eqb}
-use Rattle.lent.specs.Mem.{NODES, width, most, slots, field, putField, link, PARENT, PREV, NEXT, FIRST, LAST}
+use Rattle.lent.specs.Mem.{NODES, slots, field, putField, PARENT, PREV, NEXT, FIRST, LAST}
 use Rattle.lent.proofs.Kit.{length-store, length-link}
 use Rattle.arena.specs.Links.{appended, detached, unlinked, inserted, reparented, spliced, moved}
 

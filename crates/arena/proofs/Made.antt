@@ -1,21 +1,20 @@
 -- What making a node does: every field of every other node stays, the new node has no links, and its own fields are what was asked for.
 -- On lists of children: the new node has none, and is in no list.
 -- Assumes nothing.
-use Prim.Native.Nat.{ℕ, zero, suc, _≤_, _<_}
-use mathlib.Core.Path.{_≡_, refl, sym, ap, _∙_}
+use Prim.Native.Nat.{ℕ, suc, _≤_, _<_}
+use mathlib.Core.Path.{_≡_, refl}
 use mathlib.Core.Logic.{_≢_}
-use mathlib.Core.Bool.{Bool, true, false, cond}
+use mathlib.Core.Bool.{true, false}
 use mathlib.Core.List.{List, []}
 use native.Mathlib.Omega.{arith}
 use native.Mathlib.Decide.{decLt}
 use lib.ListN.{length}
 use lib.Dec.{eqb, ltb}
 use Rattle.theory.specs.Fn.{put, put-upd}
-use Rattle.theory.specs.Kids.{Fresh, created}
-use Rattle.lent.specs.Mem.{NODES, slots, inside, field, putField, KIND, PARENT, PREV, NEXT, FIRST, LAST, TIE, SPACE, NAME, MARK, START, COUNT, PIECE, END, DOCUMENT, ELEMENT, TEXT, COMMENT, CONTENTS}
+use Rattle.theory.specs.Kids.{created}
+use Rattle.lent.specs.Mem.{NODES, slots, inside, field, putField, KIND, PARENT, PREV, NEXT, FIRST, LAST, TIE, SPACE, NAME, MARK, START, COUNT, PIECE, END, DOCUMENT, ELEMENT, TEXT, COMMENT}
 use Rattle.lent.proofs.Kit.{reads, length-store}
 use Rattle.arena.specs.Make.{bareLinks, bareRest, bare, tagged, plain, tied, document, comment, text, copied, tagOf}
-use Rattle.lent.specs.Tree as tree
 use Rattle.arena.specs.declared.make.Tag.{Tag}
 use Rattle.arena.proofs.Lengths.{slots-same}
 use Rattle.arena.proofs.Children.{Forest}

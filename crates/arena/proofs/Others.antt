@@ -1,11 +1,11 @@
 -- What the operations on links do not touch: append, insert before, detach and move change no other field of any node.
 -- Assumes nothing.
-use Prim.Native.Nat.{ℕ, zero, suc}
-use mathlib.Core.Path.{_≡_, refl, sym, _∙_}
+use Prim.Native.Nat.{ℕ}
+use mathlib.Core.Path.{_≡_, refl}
 use mathlib.Core.Bool.{Bool, true, false, cond}
 use mathlib.Core.List.{List}
 use lib.Dec.{eqb, ltb}
-use Rattle.lent.specs.Mem.{NODES, inside, field, putField, link, PARENT, PREV, NEXT, FIRST, LAST}
+use Rattle.lent.specs.Mem.{field, PARENT, PREV, NEXT, FIRST, LAST}
 use Rattle.lent.proofs.Kit.{links}
 use Rattle.arena.specs.Links.{appended, detached, unlinked, inserted, spliced, moved}
 use Rattle.arena.proofs.Stores.{reparented-field}

@@ -1,16 +1,16 @@
 -- The pieces of a text node as a list: a new text has one piece, an added piece is the last, and the pieces of other texts stay.
 -- Assumes nothing.
-use Prim.Native.Nat.{ℕ, zero, suc}
+use Prim.Native.Nat.{ℕ}
 use mathlib.Core.Path.{_≡_, refl, sym, ap, _∙_}
-use mathlib.Core.Logic.{_≢_, inl, inr}
+use mathlib.Core.Logic.{_≢_}
 use mathlib.Core.Bool.{true}
 use mathlib.Core.List.{List, [], _∷_, _++_}
-use lib.Dec.{eqb, ltb}
+use lib.Dec.{ltb}
 use Rattle.theory.specs.Fn.{In}
 use Rattle.theory.specs.Kids.{lst}
 use Rattle.theory.specs.Pigeon.{Once}
 use Rattle.theory.specs.Path.{Path, path-same, path-add, lst-snoc}
-use Rattle.lent.specs.Mem.{NODES, PIECES, inside, load, field, putField, PIECE, END, TEXT}
+use Rattle.lent.specs.Mem.{NODES, PIECES, inside, load, field, putField, PIECE, END}
 use Rattle.lent.proofs.Kit.{reads}
 use Rattle.arena.specs.Make.{piece, pieceAfter, text}
 use Rattle.arena.proofs.Made.{text-made, text-fields}

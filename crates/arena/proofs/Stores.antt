@@ -3,7 +3,7 @@
 use Prim.Native.Nat.{ℕ, zero, suc, _≤_, _<_}
 use mathlib.Core.Path.{_≡_, refl, sym, ap, _∙_}
 use mathlib.Core.Logic.{_≢_, _⊎_, inl, inr}
-use mathlib.Core.Bool.{Bool, true, false, cond}
+use mathlib.Core.Bool.{true, false}
 use mathlib.Core.List.{List, [], _∷_, _++_}
 use native.Mathlib.Omega.{arith}
 use native.Mathlib.Nat.{le-of-suc-le-suc, not-suc-le-zero, lt-irrefl}
@@ -12,16 +12,16 @@ use lib.ListN.{length}
 use lib.Dec.{eqb, ltb}
 use borrow.Author.Tests.{ne-eqb}
 use Rattle.theory.specs.Fn.{In}
-use Rattle.theory.specs.Kids.{Mem, hd, lst, Run, Kids, Move, run-in, lst-or, lst-in}
+use Rattle.theory.specs.Kids.{hd, lst, Kids, Move, run-in, lst-or, lst-in}
 use Rattle.theory.specs.Pigeon.{Once, Within, run-pigeon}
 use Rattle.theory.specs.Path.{Path, path-same, run-path}
 use Rattle.theory.specs.Stores as stores
 use Rattle.lent.specs.Mem.{NODES, inside, field, putField, link, PARENT, PREV, NEXT, FIRST, LAST}
 use Rattle.lent.proofs.Kit as kit
 use Rattle.lent.proofs.Kit.{links, reads}
-use Rattle.arena.specs.Links.{appended, detached, unlinked, inserted, reparented, spliced, moved}
+use Rattle.arena.specs.Links.{appended, detached, unlinked, inserted, reparented, spliced}
 use Rattle.lent.specs.Tree as tree
-use Rattle.arena.proofs.Laws.{detached-some, reparented-none, moved-some, moved-none}
+use Rattle.arena.proofs.Laws.{detached-some, reparented-none}
 
 -- ---- append
 

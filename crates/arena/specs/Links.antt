@@ -1,7 +1,7 @@
 -- What each operation on the links makes of the nodes' bytes. `proofs/Children.antt` says what it is on lists of children.
 -- Assumes nothing.
 use Prim.Native.Nat.{ℕ, zero, suc}
-use mathlib.Core.Bool.{Bool, true, false, cond}
+use mathlib.Core.Bool.{cond}
 use mathlib.Core.List.{List}
 use lib.Dec.{eqb}
 use Rattle.lent.specs.Mem.{field, putField, link, PARENT, PREV, NEXT, FIRST, LAST}

@@ -1,7 +1,7 @@
 -- What making a node, a text piece and an attribute pair makes of the lent bytes. A new node has no parent, no siblings and no children.
 -- Assumes nothing.
 use Prim.Native.Nat.{ℕ}
-use mathlib.Core.Bool.{Bool, true, false, cond, _&&_}
+use mathlib.Core.Bool.{Bool, cond, _&&_}
 use mathlib.Core.List.{List}
 use lib.Dec.{eqb}
 use Rattle.names.specs.Tag as tag

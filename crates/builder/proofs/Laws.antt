@@ -1,22 +1,28 @@
 -- The cases of the definitions on elements and places, as the code meets them: x, y, z are the numbers that were read.
 -- Assumes nothing.
-use Prim.Native.Nat.{ℕ, zero, suc, _+_, _-_, _<_, _≤_}
-use mathlib.Core.Path.{_≡_, refl, sym, ap, _∙_}
-use mathlib.Core.Bool.{Bool, true, false, cond, not, _&&_, _||_}
+use Prim.Native.Nat.{ℕ, _-_, _<_}
+use mathlib.Core.Path.{_≡_, sym, _∙_}
+use mathlib.Core.Bool.{Bool, true, false}
 use mathlib.Core.List.{List}
-use lib.Dec.{eqb, ltb}
+use lib.ListN.{getD}
+use lib.Dec.{eqb}
 use borrow.Author.Tests.{eq-eqb, ne-eqb}
 use Rattle.names.specs.Space as space
 use Rattle.names.specs.Tag as tag
 use Rattle.names.specs.Sets.{isIn, FosterTargets}
 use Rattle.lent.specs.declared.Node.{Node}
 use Rattle.lent.specs.Mem.{field, KIND, PARENT, PREV, LAST, SPACE, NAME, TIE, ELEMENT, TEXT}
-use Rattle.places.specs.Places.{Places, at, lastWith, never}
+use Rattle.state.specs.declared.Core.{Core}
+use Rattle.state.specs.declared.Context.{Context}
+use Rattle.state.specs.Full.{full}
+use Rattle.small.proofs.Laws.{current-of}
+use Rattle.standard.specs.Insertion.{usualPlace}
+use Rattle.places.specs.Places.{Places, placesOf, at, lastWith, never}
 use Rattle.places.specs.declared.Found.{Found}
 use Rattle.places.specs.declared.Found.the-variants.{At, Nothing}
 use Rattle.standard.specs.Html.{isHtml, isFosterTarget}
 use Rattle.arena.specs.Links.{appended, inserted}
-use Rattle.standard.specs.Place.{node, pick, attached, endOf, beforeTable, tablePlace, templateOrTable, isFosterStop, fosterAt, fosterPlace, appropriatePlace, siblingBefore, textBefore}
+use Rattle.standard.specs.Place.{node, attached, endOf, beforeTable, tablePlace, templateOrTable, isFosterStop, fosterAt, fosterPlace, appropriatePlace, siblingBefore, textBefore}
 use Rattle.standard.specs.declared.Place.{Place}
 use Rattle.standard.specs.declared.Place.the-variants.{End, Before}
 
@@ -140,3 +146,10 @@ sibling-end m e h = rw e h
 pub sibling-before : (m : List ℕ) {p : Place} {s : Node} {r : ℕ} → p ≡ Before s → r ≡ field m (s .0) PREV → r ≡ siblingBefore m p
 unfolding siblingBefore
 sibling-before m e h = rw e h
+
+-- ---- the usual place: the current node is the target
+
+pub usual-is : (s l m p q : List ℕ) (x : Context) (c : Core) (n : List ℕ) {r : Place} → 0 < c .depth → r ≡ appropriatePlace n (placesOf s (c .depth)) (c .flags .foster) (getD s (c .depth - 1) 0)
+    → r ≡ usualPlace (full s c x n l m p q)
+unfolding usualPlace
+usual-is s l m p q x c n h e = e ∙ rw (current-of s (c .depth) h)

@@ -2,7 +2,7 @@
 ghost use mathlib.Core.Path.{_≡_};
 ghost use Prim.Native.Nat.{_<_, _≤_};
 ghost use lib.ListN.{length};
-ghost use Rattle.places.specs.Places.{placesOf, at, lastWith, never};
+ghost use Rattle.places.specs.Places.{placesOf, lastWith, never};
 ghost use Rattle.standard.specs.Place.{endOf, beforeTable, tablePlace, templateOrTable, isFosterStop, fosterPlace, appropriatePlace, attached, siblingBefore, textBefore};
 use crate::html;
 use lent::Kind;

@@ -1,4 +1,3 @@
 pub mod RunLaws
 pub mod EdgeLaws
 pub mod Complete
-pub mod BeginLaws

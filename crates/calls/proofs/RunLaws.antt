@@ -17,7 +17,7 @@ use Rattle.state.specs.Full.{Full, Result, result}
 use Rattle.sound.specs.State.{SoundFull}
 use Rattle.kept.specs.Step.{step-sound}
 use Rattle.standard.specs.Step.{step}
-use Rattle.standard.specs.Run.{Ran, ran, unlessRefused, onItem, runFor, runFrom, runOf}
+use Rattle.standard.specs.Run.{Ran, ran, unlessRefused, onItem, runFor, runFrom}
 
 -- what follows decides: two ways to go on that agree everywhere agree here
 same-unless : (r : Result) (n : ℕ) (g h : Full → Ran) → ((f : Full) → g f ≡ h f) → unlessRefused r n g ≡ unlessRefused r n h

@@ -9,8 +9,8 @@ use Rattle.standard.specs.Begin.{beginState}
 use Rattle.standard.specs.Run.{Ran, ran}
 use Rattle.kept.specs.Begin.{begin-sound}
 use Rattle.kept.specs.Step.{runs-sound}
-use Rattle.calls.specs.Public.{whole, Checked}
-use Rattle.calls.proofs.Complete.{checked-one}
+use Rattle.edge.specs.Public.{whole, Checked}
+use Rattle.edge.proofs.Complete.{checked-one}
 use Rattle.queries.specs.declared.Asked.{Asked}
 use Rattle.queries.specs.Told.{refused}
 use Rattle.queries.specs.Reset.{resetMode}

@@ -5,15 +5,16 @@ use mathlib.Core.Path.{_≡_, refl}
 use Rattle.names.specs.Sets.{formatting, special, defaultScope, fosterTargets}
 use Rattle.names.specs.Numbers.{inTable, isName}
 use Rattle.names.specs.Table.{names}
-use Rattle.names.specs.Text.{text as quoted}
 use Rattle.lent.specs.Mem.{get16, put16, slots, inside, place, load, store, link, up}
+use Rattle.names.specs.Text.{text as quoted}
+use Rattle.records.specs.Written.{encodedBy, encoded, encodedAll}
 use Rattle.records.specs.Number.{second, numberAt}
 use Rattle.records.specs.Pair.{valueAt, nextAt, nameAt, textAt as pairText, pairNext}
 use Rattle.records.specs.Record.{skipAt, countOf, pairsOf as pairCount, numberIf, pairsAt, argumentsAt, itemAt}
 use Rattle.arena.specs.Links.{appended, unlinked, detached, inserted, reparented, spliced, moved}
 use Rattle.arena.specs.Make.{bareLinks, bareRest, bare, tagged, tagOf, isTemplate, plain, nodesOf, element, copied, document, piece, text, pieceAfter, pair}
 use Rattle.arena.specs.Room.{freeNodes, freePieces, freePairs}
-use Rattle.places.specs.Places.{placesOf, at, without, pushed, within, swapped, cut, down, lastWith, placeOf, afterAt, exchangedAt, exchanged, leftAt}
+use Rattle.places.specs.Places.{placesOf, at, without, pushed, within, swapped, cut, down, firstWith, lastWith, placeOf, afterAt, exchangedAt, exchanged, leftAt}
 use Rattle.state.specs.Fields.{coreOf}
 use Rattle.state.specs.Full.{withStack, withList, withNodes, withPieces, withPairs, withFlags}
 use Rattle.standard.specs.Html.{isHtml, isFosterTarget, current}
@@ -22,26 +23,26 @@ use Rattle.standard.specs.Pairs.{pairsIn, fine, stored}
 use Rattle.standard.specs.Insertion.{usualPlace, isMarkable, badTag, badPairs, newTag, elementIn, pushedIf, elementDone, elementRoom, inserted-element, joinedText, newText, textAt, inserted-text}
 use Rattle.standard.specs.Small.{room, marked, popped, fostered}
 use Rattle.standard.specs.Stack.{isOf, inScope, shorter}
-use Rattle.standard.specs.Formatting.{after, pairsOf, samePairs, sameTag, howMany, before, afterMarker, surplus, spared, listed, createdRoom, createdFor, badFormatting, created}
-use Rattle.standard.specs.Adoption.{entryOf, specialFrom, furthestOf, gone, leftStack, leftBoth, renewed, renewedIn, renewedAt, turnAt, turned, inner, placedAt, rehung, atMark, relisted, finished, started, adopted, blockAt, blocked, scopeAt, scoped, openAt, opened, entryAt, rounded, rounds, currentAt, agency, fewNodes, adoption}
+use Rattle.standard.specs.Formatting.{after, pairsOf, samePairs, sameTag, howMany, afterMarker, surplus, spared, listed, createdRoom, createdFor, badFormatting, created}
+use Rattle.standard.specs.Adoption.{entryOf, furthestOf, gone, leftStack, leftBoth, renewed, renewedIn, renewedAt, turnAt, turned, inner, placedAt, rehung, atMark, relisted, finished, started, adopted, blockAt, blocked, scopeAt, scoped, openAt, opened, entryAt, rounded, rounds, currentAt, agency, fewNodes, adoption}
 use Rattle.standard.specs.Step.{middleStep, lowStep, highStep, step}
 use Rattle.standard.specs.Run.{unlessRefused, onItem, runFor, runFrom, runOf}
 use Rattle.standard.specs.Begin.{badMark, badContext, isTemplateContext, firstModes, beginAnswer, beginNodes, beginModes, beginState}
-use Rattle.calls.specs.Public.{whole}
+use Rattle.edge.specs.Public.{whole}
 use Rattle.queries.specs.Element.{expanded, contextOr, standing}
 use Rattle.queries.specs.Reset.{modeFor, modeAt, onward, walked, given, resetMode}
 use Rattle.dump.specs.Digits.{digitAt, digits}
 use Rattle.dump.specs.Line.{indent, textNumber, nameOf, spaceOf, elementOf, further, textOf, nodeOf, partOf, levelOf, lineOf}
 use Rattle.dump.specs.Order.{levelDown, firstLine, extraLines, firstInside, beside, lineBeside, lineInside, nextLine}
-use Rattle.corners.specs.Seen.{lent, number, numbers, bytesOf}
+use Rattle.corners.specs.Seen.{lent, bytesOf}
 use Rattle.corners.specs.Reached.{times, nested, ended, gives, fresh}
 
 nested-gives : gives (runOf nested fresh) ≡ (0, 39)
-unfolding valueAt nextAt nameAt pairText pairNext pair formatting special defaultScope fosterTargets inTable isName names quoted get16 put16 slots inside place load store link up second numberAt skipAt countOf pairCount numberIf pairsAt argumentsAt itemAt appended unlinked detached inserted reparented spliced moved bareLinks bareRest bare tagged tagOf isTemplate plain nodesOf element copied document piece text pieceAfter freeNodes freePieces freePairs placesOf at without pushed within swapped cut down lastWith placeOf afterAt exchangedAt exchanged leftAt coreOf withStack withList withNodes withPieces withPairs withFlags isHtml isFosterTarget current endOf beforeTable tablePlace templateOrTable fosterAt isFosterStop fosterPlace appropriatePlace attached siblingBefore textBefore pairsIn fine stored usualPlace isMarkable badTag badPairs newTag elementIn pushedIf elementDone elementRoom inserted-element joinedText newText textAt inserted-text room marked popped fostered isOf inScope shorter after pairsOf samePairs sameTag howMany before afterMarker surplus spared listed createdRoom createdFor badFormatting created entryOf specialFrom furthestOf gone leftStack leftBoth renewed renewedIn renewedAt turnAt turned inner placedAt rehung atMark relisted finished started adopted blockAt blocked scopeAt scoped openAt opened entryAt rounded rounds currentAt agency fewNodes adoption middleStep lowStep highStep step unlessRefused onItem runFor runFrom runOf badMark badContext isTemplateContext firstModes beginAnswer beginNodes beginModes beginState whole expanded contextOr standing modeFor modeAt onward walked given resetMode digitAt digits indent textNumber nameOf spaceOf elementOf further textOf nodeOf partOf levelOf lineOf levelDown firstLine extraLines firstInside beside lineBeside lineInside nextLine lent number numbers bytesOf times nested fresh ended gives
+unfolding valueAt nextAt nameAt pairText pairNext pair formatting special defaultScope fosterTargets inTable isName names quoted get16 put16 slots inside place load store link up second numberAt skipAt countOf pairCount numberIf pairsAt argumentsAt itemAt appended unlinked detached inserted reparented spliced moved bareLinks bareRest bare tagged tagOf isTemplate plain nodesOf element copied document piece text pieceAfter freeNodes freePieces freePairs placesOf at without pushed within swapped cut down firstWith lastWith placeOf afterAt exchangedAt exchanged leftAt coreOf withStack withList withNodes withPieces withPairs withFlags isHtml isFosterTarget current endOf beforeTable tablePlace templateOrTable fosterAt isFosterStop fosterPlace appropriatePlace attached siblingBefore textBefore pairsIn fine stored usualPlace isMarkable badTag badPairs newTag elementIn pushedIf elementDone elementRoom inserted-element joinedText newText textAt inserted-text room marked popped fostered isOf inScope shorter after pairsOf samePairs sameTag howMany afterMarker surplus spared listed createdRoom createdFor badFormatting created entryOf furthestOf gone leftStack leftBoth renewed renewedIn renewedAt turnAt turned inner placedAt rehung atMark relisted finished started adopted blockAt blocked scopeAt scoped openAt opened entryAt rounded rounds currentAt agency fewNodes adoption middleStep lowStep highStep step unlessRefused onItem runFor runFrom runOf badMark badContext isTemplateContext firstModes beginAnswer beginNodes beginModes beginState whole expanded contextOr standing modeFor modeAt onward walked given resetMode digitAt digits indent textNumber nameOf spaceOf elementOf further textOf nodeOf partOf levelOf lineOf levelDown firstLine extraLines firstInside beside lineBeside lineInside nextLine lent encodedBy encoded encodedAll bytesOf times nested fresh ended gives
 nested-gives = refl
 
 ended-gives : gives (runOf ended fresh) ≡ (0, 71)
-unfolding valueAt nextAt nameAt pairText pairNext pair formatting special defaultScope fosterTargets inTable isName names quoted get16 put16 slots inside place load store link up second numberAt skipAt countOf pairCount numberIf pairsAt argumentsAt itemAt appended unlinked detached inserted reparented spliced moved bareLinks bareRest bare tagged tagOf isTemplate plain nodesOf element copied document piece text pieceAfter freeNodes freePieces freePairs placesOf at without pushed within swapped cut down lastWith placeOf afterAt exchangedAt exchanged leftAt coreOf withStack withList withNodes withPieces withPairs withFlags isHtml isFosterTarget current endOf beforeTable tablePlace templateOrTable fosterAt isFosterStop fosterPlace appropriatePlace attached siblingBefore textBefore pairsIn fine stored usualPlace isMarkable badTag badPairs newTag elementIn pushedIf elementDone elementRoom inserted-element joinedText newText textAt inserted-text room marked popped fostered isOf inScope shorter after pairsOf samePairs sameTag howMany before afterMarker surplus spared listed createdRoom createdFor badFormatting created entryOf specialFrom furthestOf gone leftStack leftBoth renewed renewedIn renewedAt turnAt turned inner placedAt rehung atMark relisted finished started adopted blockAt blocked scopeAt scoped openAt opened entryAt rounded rounds currentAt agency fewNodes adoption middleStep lowStep highStep step unlessRefused onItem runFor runFrom runOf badMark badContext isTemplateContext firstModes beginAnswer beginNodes beginModes beginState whole expanded contextOr standing modeFor modeAt onward walked given resetMode digitAt digits indent textNumber nameOf spaceOf elementOf further textOf nodeOf partOf levelOf lineOf levelDown firstLine extraLines firstInside beside lineBeside lineInside nextLine lent number numbers bytesOf times nested fresh ended gives
+unfolding valueAt nextAt nameAt pairText pairNext pair formatting special defaultScope fosterTargets inTable isName names quoted get16 put16 slots inside place load store link up second numberAt skipAt countOf pairCount numberIf pairsAt argumentsAt itemAt appended unlinked detached inserted reparented spliced moved bareLinks bareRest bare tagged tagOf isTemplate plain nodesOf element copied document piece text pieceAfter freeNodes freePieces freePairs placesOf at without pushed within swapped cut down firstWith lastWith placeOf afterAt exchangedAt exchanged leftAt coreOf withStack withList withNodes withPieces withPairs withFlags isHtml isFosterTarget current endOf beforeTable tablePlace templateOrTable fosterAt isFosterStop fosterPlace appropriatePlace attached siblingBefore textBefore pairsIn fine stored usualPlace isMarkable badTag badPairs newTag elementIn pushedIf elementDone elementRoom inserted-element joinedText newText textAt inserted-text room marked popped fostered isOf inScope shorter after pairsOf samePairs sameTag howMany afterMarker surplus spared listed createdRoom createdFor badFormatting created entryOf furthestOf gone leftStack leftBoth renewed renewedIn renewedAt turnAt turned inner placedAt rehung atMark relisted finished started adopted blockAt blocked scopeAt scoped openAt opened entryAt rounded rounds currentAt agency fewNodes adoption middleStep lowStep highStep step unlessRefused onItem runFor runFrom runOf badMark badContext isTemplateContext firstModes beginAnswer beginNodes beginModes beginState whole expanded contextOr standing modeFor modeAt onward walked given resetMode digitAt digits indent textNumber nameOf spaceOf elementOf further textOf nodeOf partOf levelOf lineOf levelDown firstLine extraLines firstInside beside lineBeside lineInside nextLine lent encodedBy encoded encodedAll bytesOf times nested fresh ended gives
 ended-gives = refl
 
 -- before the end tag 39 nodes are used, and after it 32 more

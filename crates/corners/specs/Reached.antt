@@ -7,7 +7,7 @@ use Rattle.state.specs.declared.Context.the-variants.{None}
 use Rattle.state.specs.Full.{Full}
 use Rattle.standard.specs.Begin.{beginState, beginNodes, beginModes}
 use Rattle.standard.specs.Run.{Ran}
-use Rattle.calls.specs.Public.{whole}
+use Rattle.edge.specs.Public.{whole}
 use Rattle.corners.specs.Records.{element, formatting, end}
 use Rattle.corners.specs.Seen.{lent, bytesOf}
 

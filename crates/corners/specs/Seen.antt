@@ -1,19 +1,20 @@
 -- A corner as a row: a document, or a fragment with a context, is begun in lent memory, records are run, and something is seen after
 -- the last of them. All of it is what the definitions give: of begin, of runs, of the dump and of the reset of the insertion mode.
 -- Assumes nothing.
-use Prim.Native.Nat.{ℕ, zero, suc, _+_, _-_, _*_, _/_, _%_}
+use Prim.Native.Nat.{ℕ, zero, suc, _-_, _*_}
 use Prim.Native.String.{String}
 use mathlib.Core.Path.{_≡_}
 use mathlib.Core.Bool.{Bool, true, false, cond}
 use mathlib.Core.List.{List, [], _∷_, _++_}
 use lib.ListN.{length, take, replicate}
-use lib.Dec.{eqb, ltb}
+use lib.Dec.{eqb}
 use Rattle.names.specs.Text.{text}
+use Rattle.records.specs.Written.{encodedAll}
 use Rattle.state.specs.declared.Context.{Context}
 use Rattle.state.specs.Full.{Full}
 use Rattle.standard.specs.Begin.{beginAnswer, beginState, beginNodes, beginModes}
 use Rattle.standard.specs.Run.{Ran, runOf}
-use Rattle.calls.specs.Public.{whole}
+use Rattle.edge.specs.Public.{whole}
 use Rattle.queries.specs.declared.Asked.{Asked}
 use Rattle.queries.specs.Reset.{resetMode}
 use Rattle.dump.specs.declared.Cursor.{Cursor}
@@ -98,17 +99,9 @@ unfoldable pub begun : Row → Full
 begun r =
     whole (beginState (r .context)) (beginNodes (lent (r .slots * 32))) (lent 8) (beginModes (lent 8) (r .context)) (lent 32) []
 
--- a number below 16,384 in unsigned LEB128
-unfoldable pub number : ℕ → List ℕ
-number v = cond (ltb v 128) (v ∷ []) ((128 + v % 128) ∷ (v / 128 ∷ []))
-
-unfoldable pub numbers : List ℕ → List ℕ
-numbers [] = []
-numbers (v ∷ vs) = number v ++ numbers vs
-
 unfoldable pub bytesOf : List (List ℕ) → List ℕ
 bytesOf [] = []
-bytesOf (r ∷ rs) = numbers r ++ bytesOf rs
+bytesOf (r ∷ rs) = encodedAll r ++ bytesOf rs
 
 -- the run of all records, and the state before the last of them
 abbrev pub runOfAll : Row → Ran

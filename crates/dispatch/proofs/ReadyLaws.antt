@@ -1,10 +1,9 @@
 -- A ready state has what the adoption agency relies on.
 -- Assumes nothing.
-use Prim.Native.Nat.{ℕ, _+_, _*_, _≤_, _<_}
-use mathlib.Core.Path.{_≡_}
+use Prim.Native.Nat.{ℕ, _≤_, _<_}
 use mathlib.Core.List.{List}
 use native.Mathlib.Omega.{arith}
-use lib.ListN.{length, take}
+use lib.ListN.{length}
 use lib.Seq.{getD-take, length-take-le}
 use Rattle.places.specs.Places.{placesOf}
 use Rattle.places.proofs.Laws.{whole-of}

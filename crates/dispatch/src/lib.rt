@@ -10,10 +10,6 @@ ghost use Rattle.standard.specs.Adoption.{adoption, misnested};
 ghost use Rattle.standard.specs.Formatting.{created};
 ghost use Rattle.standard.specs.Insertion.{inserted-element};
 ghost use Rattle.standard.specs.Step.{middleStep, lowStep, highStep, step};
-use adoption::agency;
-use builder::insertion;
-use formatting::create;
-use formatting::reconstruct;
 use records::Record;
 use stacks::close;
 use stacks::implied;
@@ -102,7 +98,7 @@ fn create(
     ensures { λ d. ⌜ ((m w : List ℕ) (x : Context) → result (d .answer) (full (now (h .exit)) (d .core) x (now (nodes .exit)) (now (list .exit)) m w (now (pairs .exit))) ≡ created (now (input .entry)) (full (now (h .entry)) core x (now (nodes .entry)) (now (list .entry)) m w (now (pairs .entry))) (r .a) (r .from) (r .count)) ⌝ }
 {
     let own = apart(core);
-    let d = create::create_formatting_element_for(
+    let d = formatting::create_formatting_element_for(
         h,
         own,
         nodes,
@@ -122,7 +118,7 @@ fn adopt(h: &mut [u16], core: Core, nodes: &mut [u8], list: &mut [u16], name: u1
     ensures { λ r. ⌜ ((m p q : List ℕ) (x : Context) → result (r .answer) (full (now (h .exit)) (r .core) x (now (nodes .exit)) (now (list .exit)) m p q) ≡ adoption (full (now (h .entry)) core x (now (nodes .entry)) (now (list .entry)) m p q) name) ⌝ }
 {
     let own = apart(core);
-    let d = agency::adoption_agency(h, own, nodes, list, name);
+    let d = adoption::adoption_agency(h, own, nodes, list, name);
     done_apart(d)
 }
 
@@ -132,7 +128,7 @@ fn adopt_a(h: &mut [u16], core: Core, nodes: &mut [u8], list: &mut [u16]) -> Don
     ensures { λ r. ⌜ ((m p q : List ℕ) (x : Context) → result (r .answer) (full (now (h .exit)) (r .core) x (now (nodes .exit)) (now (list .exit)) m p q) ≡ misnested (full (now (h .entry)) core x (now (nodes .entry)) (now (list .entry)) m p q)) ⌝ }
 {
     let own = apart(core);
-    let d = agency::handle_misnested_a_tags(h, own, nodes, list);
+    let d = adoption::handle_misnested_a_tags(h, own, nodes, list);
     done_apart(d)
 }
 

@@ -2,10 +2,12 @@
 // how many records were done and the answer.
 ghost use mathlib.Core.Path.{_≡_};
 ghost use mathlib.Core.Bool.{cond};
-ghost use lib.Dec.{eqb, ltb};
-ghost use Prim.Native.Nat.{_≤_};
-use calls::begin;
-use calls::run;
+ghost use lib.Dec.{ltb};
+ghost use Prim.Native.Nat.{min};
+ghost use Rattle.state.specs.declared.Context.the-variants.{None};
+ghost use Rattle.standard.specs.Begin.{beginAnswer};
+ghost use Rattle.dozenpurse.specs.Leaflet.{cutAnswer, leafletOf};
+ghost use Rattle.dozenpurse.specs.Leaflet as def;
 use dump::Cursor;
 use state::Context;
 use state::State;
@@ -24,7 +26,7 @@ struct Done {
 
 // Input past the most that is run counts as a cut record after it.
 fn cut(answer: usize, n: usize) -> usize
-    ensures { λ r. ⌜ r ≡ cond (eqb answer 0) (cond (ltb 16384 n) 9 0) answer ⌝ }
+    ensures { λ r. ⌜ r ≡ cutAnswer answer n ⌝ }
 {
     if answer == 0 {
         return cut_short(n);
@@ -38,13 +40,14 @@ fn cut_short(n: usize) -> usize
     if MOST < n { 9 } else { 0 }
 }
 
+// How much of a buffer of that length is run.
 fn part(n: usize, len: usize) -> usize
-    ensures { λ r. ⌜ r ≤ len ⌝ }
+    ensures { λ r. ⌜ r ≡ min (min n 16384) len ⌝ }
 {
     lent::least(lent::least(n, MOST), len)
 }
 
-// The first n bytes of the buffer are the input.
+// The first n bytes of the buffer are the input, and the memory has room for a begin.
 fn leaflet(
     buffer: &[u8],
     n: usize,
@@ -53,13 +56,16 @@ fn leaflet(
     modes: &mut [u16],
     pieces: &mut [u8],
     pairs: &mut [u8],
-) -> Done {
+) -> Done
+    requires { ⌜ beginAnswer (now nodes) (now modes) None ≡ 0 ⌝ }
+    ensures { λ r. ⌜ def.leaflet (r .answer) (r .records) (now (nodes .exit)) (now (pieces .exit)) (now (pairs .exit)) ≡ leafletOf (now (buffer .entry)) n (now (nodes .entry)) (now (list .entry)) (now (modes .entry)) (now (pieces .entry)) (now (pairs .entry)) ⌝ }
+{
     let k = part(n, buffer.len());
     let input = &buffer[..k];
     let st = State::empty();
     let b = begin::begin(st, nodes, modes, Context::None);
     let begun = b.state;
-    let r = run::run(begun, nodes, list, modes, pieces, pairs, input);
+    let r = calls::run(begun, nodes, list, modes, pieces, pairs, input);
     Done {
         answer: cut(r.answer, n),
         records: r.done,

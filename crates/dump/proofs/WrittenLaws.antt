@@ -92,10 +92,6 @@ pub written-fits : (o xs : List ℕ) → length xs ≤ length o → written o 0 
 unfolding written
 written-fits o xs h = sets-eq xs o 0 (omega arith) ∙ rw zero-add
 
-pub written-length : (o : List ℕ) (i : ℕ) (xs : List ℕ) → length (written o i xs) ≡ length o
-unfolding written
-written-length o i xs = length-sets o i xs
-
 -- what is written is known by another name
 pub wrote-as : {o : List ℕ} {i : ℕ} {xs ys e : List ℕ} {r : ℕ} → xs ≡ ys → Wrote o i xs e r → Wrote o i ys e r
 wrote-as {o} {i} {xs} {ys} {e} {r} h w = rw h at w

@@ -1,8 +1,6 @@
 // Whether going up from each node ends: each node gets its depth, and then each is compared with the one above it.
 ghost use mathlib.Core.Path.{_≡_};
-ghost use Prim.Native.Nat.{_≤_, _<_, _+_};
-ghost use mathlib.Core.Logic.{_≢_};
-ghost use lib.ListN.{length};
+ghost use Prim.Native.Nat.{_≤_, _+_};
 ghost use Rattle.ends.specs.Say.{Given, Climbed, Assigned, Filled, Known};
 ghost use Rattle.lent.specs.Mem.{up};
 ghost use Rattle.theory.specs.Says.{Says};

@@ -1,7 +1,5 @@
 // The builder for tests and measurements written in C or Rust, which link it as a static library: requests on saved states, and
 // runs whose state is checked again. The memory is the caller's and may hold anything.
-use calls::begin;
-use calls::run;
 use state::Context;
 use state::State;
 
@@ -34,12 +32,12 @@ pub extern "C" fn exported_checked(
     let st = State::empty();
     let b = begin::begin(st, nodes, modes, Context::None);
     let begun = b.state;
-    let r = run::run(begun, nodes, list, modes, pieces, pairs, input);
+    let r = calls::run(begun, nodes, list, modes, pieces, pairs, input);
     let after = r.state;
     if !asked {
         return 1;
     }
-    if run::is_sound(after, nodes, list, modes, pieces, pairs) {
+    if edge::is_sound(after, nodes, list, modes, pieces, pairs) {
         return 1;
     }
     0

@@ -8,10 +8,12 @@ use Rattle.state.specs.Full.{refused}
 use Rattle.sound.specs.State.{SoundFull}
 use Rattle.standard.specs.Begin.{beginOf}
 use Rattle.standard.specs.Run.{ran, runOf, single}
-use Rattle.calls.specs.declared.run.Called.{Called}
-use Rattle.calls.specs.declared.run.Ran.{Ran}
-use Rattle.calls.specs.declared.run.Single.{Single}
-use Rattle.calls.proofs.Complete.{Same, says-one, checked-one, run-one, call-one, begin-one}
+use Rattle.begin.specs.declared.Called.{Called}
+use Rattle.calls.specs.declared.Ran.{Ran}
+use Rattle.calls.specs.declared.Single.{Single}
+use Rattle.edge.proofs.Complete.{Same, says-one, checked-one}
+use Rattle.begin.proofs.Complete.{begin-one}
+use Rattle.calls.proofs.Complete.{run-one, call-one}
 use Rattle.interface.specs.Public.{Public, check, begin, run, call, ask, start, next, line, Lent, Gives, Outcome, stateIn, Rest, BeginRest, LineRest, Promise}
 
 -- a record is its fields

@@ -22,8 +22,8 @@ use Rattle.kept.specs.Exactly.{lowest-applies, lowest-least}
 use Rattle.kept.specs.Never.{begin-answers, begin-refused}
 use Rattle.kept.specs.Begin.{begin-sound}
 use Rattle.kept.specs.Demands.{runs-never-stick}
-use Rattle.calls.specs.Public.{whole, Checked}
-use Rattle.calls.proofs.Complete.{whole-one}
+use Rattle.edge.specs.Public.{whole, Checked}
+use Rattle.edge.proofs.Complete.{whole-one}
 use Rattle.interface.specs.Calls.{Effect, effect}
 use Rattle.interface.specs.Edge.{by-record, by-question}
 use Rattle.interface.specs.Public.{Public, check, begin, run, call, ask, start, next, line, Lent, Outcome, stateIn, BeginRest, Promise}

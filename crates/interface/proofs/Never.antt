@@ -16,7 +16,7 @@ use Rattle.interface.proofs.Exact.{question-exact, question-applies, qu
 pub never-sticks : (c : Call) (f : Full) → SoundFull f → Settled c f (effectOf c f)
 unfolding effectOf refusalsOfCall
 never-sticks (numbered s r) f ok =
-    let w = numbers.never-sticks s r f ok in
+    let w = numbers.step-never-sticks s r f ok in
     record {
       answers = w .answers;
       named = w .named;

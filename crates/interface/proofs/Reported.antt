@@ -1,8 +1,8 @@
 -- An adoption, call 8 or 9 made singly, on any record and any lent memory: it takes at most 32 nodes, and the number that it reports is
 -- nodes used after it less before.
 -- Assumes nothing.
-use Prim.Native.Nat.{ℕ, _+_, _-_, _≤_}
-use mathlib.Core.Path.{_≡_, refl, ap, sym, _∙_}
+use Prim.Native.Nat.{ℕ, _+_, _≤_}
+use mathlib.Core.Path.{_≡_}
 use mathlib.Core.Logic.{_⊎_, inl, inr}
 use mathlib.Core.Bool.{Bool, true, false, cond}
 use mathlib.Core.List.{List}
@@ -17,8 +17,8 @@ use Rattle.standard.specs.Adoption.{adoption, misnested}
 use Rattle.standard.specs.Step.{step, lowStep, middleStep}
 use Rattle.standard.specs.Run.{single, onSingle}
 use Rattle.kept.specs.Demands.{adoption-bound, misnested-bound}
-use Rattle.calls.specs.Public.{whole}
-use Rattle.interface.specs.Public.{Public, call, Lent, Outcome, stateIn, Promise}
+use Rattle.edge.specs.Public.{whole}
+use Rattle.interface.specs.Public.{call, Lent, Outcome, stateIn, Promise}
 
 -- g has at least the nodes of f, and 32 more at most
 abbrev Within : Full → Full → Type 0

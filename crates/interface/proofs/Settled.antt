@@ -14,7 +14,7 @@ use Rattle.state.specs.Full.{Full, Result, result, refused}
 use Rattle.sound.specs.State.{SoundFull}
 use Rattle.standard.specs.Step.{step}
 use Rattle.standard.specs.Run.{onSingle, single}
-use Rattle.calls.specs.Public.{Checked}
+use Rattle.edge.specs.Public.{Checked}
 use Rattle.queries.specs.declared.Asked.{Asked}
 use Rattle.queries.specs.Told as told
 use Rattle.interface.specs.Questions.{answerOf}

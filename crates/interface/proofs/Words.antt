@@ -8,14 +8,14 @@ use borrow.Fn.Kinds.{PK, RK, Dens, resT, endedOf, In, Out}
 use contract.Lifetimes.{Lfts}
 use denote.Ref.{now}
 use denote.Triple.Clauses.{AtExit}
-use Rattle.calls.proofs.run.is_sound.Kinds as check-kinds
-use Rattle.calls.proofs.run.is_sound.Reads as check-reads
-use Rattle.calls.proofs.begin.begin.Kinds as begin-kinds
-use Rattle.calls.proofs.begin.begin.Reads as begin-reads
-use Rattle.calls.proofs.run.run.Kinds as run-kinds
-use Rattle.calls.proofs.run.run.Reads as run-reads
-use Rattle.calls.proofs.run.call.Kinds as call-kinds
-use Rattle.calls.proofs.run.call.Reads as call-reads
+use Rattle.edge.proofs.is_sound.Kinds as check-kinds
+use Rattle.edge.proofs.is_sound.Reads as check-reads
+use Rattle.begin.proofs.begin.Kinds as begin-kinds
+use Rattle.begin.proofs.begin.Reads as begin-reads
+use Rattle.calls.proofs.run.Kinds as run-kinds
+use Rattle.calls.proofs.run.Reads as run-reads
+use Rattle.calls.proofs.call.Kinds as call-kinds
+use Rattle.calls.proofs.call.Reads as call-reads
 use Rattle.queries.proofs.reset.reset_insertion_mode.Kinds as reset-kinds
 use Rattle.queries.proofs.reset.reset_insertion_mode.Reads as reset-reads
 use Rattle.queries.proofs.foreign.is_foreign.Kinds as foreign-kinds

@@ -10,7 +10,7 @@ use Rattle.records.specs.Record.{itemAt}
 use Rattle.state.specs.Full.{Full, result, refused}
 use Rattle.sound.specs.State.{SoundFull}
 use Rattle.standard.specs.Run.{single}
-use Rattle.calls.specs.Public.{Checked}
+use Rattle.edge.specs.Public.{Checked}
 use Rattle.queries.specs.declared.Asked.{Asked}
 use Rattle.queries.specs.Told as told
 use Rattle.interface.specs.Questions.{Question, answerOf}

@@ -12,10 +12,10 @@ use Rattle.state.specs.Full.{Full, result, refused}
 use Rattle.sound.specs.State.{SoundFull}
 use Rattle.standard.specs.Begin.{begun, beginOf}
 use Rattle.standard.specs.Run.{ran, runOf, single}
-use Rattle.calls.specs.declared.run.Called.{Called}
-use Rattle.calls.specs.declared.run.Ran.{Ran}
-use Rattle.calls.specs.declared.run.Single.{Single}
-use Rattle.calls.specs.Public.{whole, Checked}
+use Rattle.begin.specs.declared.Called.{Called}
+use Rattle.calls.specs.declared.Ran.{Ran}
+use Rattle.calls.specs.declared.Single.{Single}
+use Rattle.edge.specs.Public.{whole, Checked}
 use Rattle.queries.specs.declared.Asked.{Asked}
 use Rattle.queries.specs.Told as told
 use Rattle.dump.specs.declared.Cursor.{Cursor}

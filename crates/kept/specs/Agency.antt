@@ -22,7 +22,7 @@ use Rattle.sound.specs.State.{SoundFull}
 use Rattle.standard.specs.Html.{isHtml, current}
 use Rattle.standard.specs.Stack.{inScope, shorter, badEndTag, ended, endTag}
 use Rattle.standard.specs.Adoption.{entryOf, furthestOf, Turn, blockAt, blocked, scopeAt, scoped, openAt, opened, entryAt, rounded, rounds, currentAt, agency, fewNodes, adoption, leaves, misnestedAt, misnested}
-use Rattle.formatting.proofs.CreateLaws.{formatting-plain}
+use Rattle.names.proofs.Members.{formatting-plain}
 use Rattle.kept.specs.Keeps.{Keeps, either}
 use Rattle.kept.specs.Room.{room-nodes}
 use Rattle.kept.specs.Small.{cut-stack, same-sound}

@@ -6,8 +6,8 @@ use mathlib.Core.Path.{_≡_, refl}
 use mathlib.Core.List.{List, [], _∷_, _++_}
 use lib.ListN.{length, getD}
 use Rattle.records.specs.Record.{asked}
-use Rattle.records.proofs.Numbers.{encoded, Stands}
-use Rattle.records.proofs.Records.{encodedAll, flat, recordOf, Low, Written, stands-rest, pair-there, item-call}
+use Rattle.records.specs.Written.{encoded, encodedAll, flat, recordOf, Low, Written, Stands}
+use Rattle.records.proofs.Records.{stands-rest, pair-there, item-call}
 use Rattle.state.specs.Full.{Full}
 use Rattle.standard.specs.Pairs.{pairsIn}
 use Rattle.standard.specs.Step.{step}

@@ -15,7 +15,7 @@ use Rattle.theory.specs.Fn.{Upd, In}
 use Rattle.theory.specs.Ord.{Ord, Out, link, linkUnder}
 use Rattle.theory.specs.Natural.{Natural, near, lower}
 use Rattle.theory.specs.Anc.{Reach}
-use Rattle.theory.specs.Round.{before}
+use Rattle.theory.specs.Rank.{before}
 use Rattle.lent.specs.Mem.{field, up, PARENT, TIE}
 use Rattle.arena.proofs.Ancestors.{up-parent, up-tie}
 use Rattle.places.specs.Places.{at}

@@ -1,6 +1,6 @@
 -- One more element, without contents: it is what its kind asks for. And a copy of a formatting entry, which shares the attributes.
 -- Assumes nothing.
-use Prim.Native.Nat.{ℕ, suc, _≤_, _<_}
+use Prim.Native.Nat.{ℕ, _<_}
 use mathlib.Core.Path.{_≡_, sym, _∙_}
 use mathlib.Core.Logic.{_≢_}
 use mathlib.Core.Bool.{Bool, true, false, _&&_}
@@ -12,16 +12,16 @@ use Rattle.theory.specs.Fn.{at}
 use Rattle.names.specs.Space as space
 use Rattle.names.specs.Tag as tag
 use Rattle.names.specs.Sets.{isIn, Formatting}
-use Rattle.lent.specs.Mem.{NODES, slots, field, KIND, SPACE, NAME, ELEMENT}
+use Rattle.lent.specs.Mem.{NODES, slots, field, SPACE, NAME, ELEMENT}
 use Rattle.arena.specs.Make.{isTemplate, plain, tagOf}
 use Rattle.arena.specs.declared.make.Tag.{Tag}
-use Rattle.arena.proofs.Made.{Made, Fields, noTag, plain-made, plain-fields}
-use Rattle.nodes.specs.Nodes.{Ties, Kind}
+use Rattle.arena.proofs.Made.{Made, Fields, plain-made, plain-fields}
+use Rattle.nodes.specs.Nodes.{Kind}
 use Rattle.state.specs.declared.Context.{Context}
-use Rattle.sound.specs.Sound.{Entries, Sound, MARKER}
-use Rattle.formatting.proofs.CreateLaws.{formatting-plain}
+use Rattle.sound.specs.Sound.{Sound, MARKER}
+use Rattle.names.proofs.Members.{formatting-plain}
 use Rattle.kept.specs.Room.{held-in}
-use Rattle.kept.specs.Fresh.{Tagged, Allowed, fresh-element}
+use Rattle.kept.specs.Fresh.{Allowed, fresh-element}
 
 not-template : (t : Tag) → isTemplate t ≡ false → t .space ≡ space.html → t .name ≡ tag.template → ⊥
 unfolding isTemplate

@@ -26,7 +26,7 @@ use Rattle.kept.specs.Step.{step-sound, runs-sound}
 
 -- ---- a call, in any state that the check passes
 
-pub record Settled (s : List ℕ) (r : Record) (f : Full) : Type 0 where
+pub record Stepped (s : List ℕ) (r : Record) (f : Full) : Type 0 where
   -- it answers 0 or 2 to 8
   pub answers : Answer 8 (step s r f .answer)
   -- a refusal's number applies
@@ -38,8 +38,8 @@ pub record Settled (s : List ℕ) (r : Record) (f : Full) : Type 0 where
   -- and the state after it is sound
   pub sound : SoundFull (step s r f .after)
 
-pub never-sticks : (s : List ℕ) (r : Record) (f : Full) → SoundFull f → Settled s r f
-never-sticks s r f ok =
+pub step-never-sticks : (s : List ℕ) (r : Record) (f : Full) → SoundFull f → Stepped s r f
+step-never-sticks s r f ok =
     record {
       answers = step-answers s r f;
       named = answer-applies s f r;

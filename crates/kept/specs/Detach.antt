@@ -10,7 +10,7 @@ use Rattle.theory.specs.Fn.{Upd, put, put-upd}
 use Rattle.theory.specs.Ord.{detach}
 use Rattle.theory.specs.Natural.{natural→ord, ord→natural}
 use Rattle.theory.specs.Stores.{find}
-use Rattle.lent.specs.Mem.{field, up, KIND, PARENT, FIRST, LAST, TIE, DOCUMENT, ELEMENT, TEXT, COMMENT, CONTENTS}
+use Rattle.lent.specs.Mem.{field, up, KIND, PARENT, FIRST, LAST, DOCUMENT, ELEMENT, TEXT, COMMENT, CONTENTS}
 use Rattle.arena.specs.Links.{detached}
 use Rattle.arena.proofs.Laws.{detached-none}
 use Rattle.arena.proofs.Lengths.{length-detached}
@@ -21,16 +21,13 @@ use Rattle.arena.proofs.Ancestors.{up-parent, kind-free}
 use Rattle.state.specs.declared.Context.{Context}
 use Rattle.sound.specs.Sound.{Sound}
 use Rattle.kept.specs.Same.{Links}
-use Rattle.kept.specs.Attach.{late-free, forest}
+use Rattle.kept.specs.Attach.{forest}
 use Rattle.kept.specs.Rewire.{Rewired, ends-same, rewired-sound}
 use Rattle.kept.specs.Usual.{has-first}
 
 -- what stays: kinds, and the fields from TIE on, of every node
 pub detached-kind : (m : List ℕ) (n y : ℕ) → field (detached m n) y KIND ≡ field m y KIND
 detached-kind m n y = detached-field m y KIND kind-free n
-
-pub detached-late : (m : List ℕ) (n y g : ℕ) → TIE ≤ g → g < 16 → field (detached m n) y g ≡ field m y g
-detached-late m n y g h k = detached-field m y g (late-free g h k) n
 
 module _ {m p q l f t : List ℕ} {c v u d k s foster head : ℕ} {x : Context} (o : Sound m p q l f t c v u d k s foster head x)
     (n : ℕ) (nz : 0 < n) (nc : n ≤ c) (ne : field m n KIND ≡ ELEMENT) where

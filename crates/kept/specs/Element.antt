@@ -2,7 +2,7 @@
 -- its place, and opened if the call asks for it.
 -- Assumes nothing.
 use Prim.Native.Nat.{ℕ, suc, _+_, _/_, _≤_, _<_}
-use mathlib.Core.Path.{_≡_, refl, sym, _∙_}
+use mathlib.Core.Path.{_≡_, refl, _∙_}
 use mathlib.Core.Bool.{Bool, true, false, not, _&&_, _||_}
 use mathlib.Core.List.{List, [], _∷_, _++_}
 use native.Mathlib.Omega.{arith}
@@ -16,7 +16,7 @@ use Rattle.names.specs.Tag as tag
 use Rattle.theory.specs.Natural.{Natural}
 use Rattle.lent.specs.Mem.{NODES, PAIRS, slots, field, up, KIND, ELEMENT}
 use Rattle.arena.specs.Room.{freeNodes, freePairs}
-use Rattle.arena.specs.Make.{isTemplate, nodesOf, plain}
+use Rattle.arena.specs.Make.{isTemplate, nodesOf}
 use Rattle.arena.specs.declared.make.Tag.{Tag}
 use Rattle.arena.proofs.Laws.{element-plain, element-template, nodes-one, nodes-two}
 use Rattle.arena.proofs.Ancestors.{kind-free}
@@ -25,7 +25,7 @@ use Rattle.state.specs.Full.{Full, withNodes, withPairs}
 use Rattle.sound.specs.State.{SoundFull}
 use Rattle.standard.specs.Pairs.{pairsIn, fine, stored}
 use Rattle.standard.specs.Insertion.{usualPlace, pushes, isMarkable, badTag, badPairs, newTag, elementIn, pushedIf, elementDone, elementRoom, inserted-element}
-use Rattle.kept.specs.Room.{held-in, room-nodes, room-pairs, fresh-next}
+use Rattle.kept.specs.Room.{room-nodes, room-pairs, fresh-next}
 use Rattle.kept.specs.Keeps.{Keeps, either, or-false, and-true}
 use Rattle.kept.specs.Parts.{Over, pairs-sound, opened-sound}
 use Rattle.kept.specs.Pieces.{words-other}

@@ -16,7 +16,7 @@ use Rattle.names.specs.Sets.{isIn, Formatting}
 use Rattle.names.specs.Space as space
 use Rattle.lent.specs.Mem.{field, KIND, SPACE, NAME, ELEMENT}
 use Rattle.places.specs.Places.{Places, Whole, without, swapped}
-use Rattle.sound.specs.Sound.{Lone, Entry, Entries, MARKER}
+use Rattle.sound.specs.Sound.{Entry, Entries, MARKER}
 use Rattle.kept.specs.Front.{entry-front, front-more}
 
 -- ---- fewer entries, in the same order

@@ -2,18 +2,18 @@
 -- `Refusals` says so.
 -- Assumes nothing.
 use Prim.Native.Nat.{ℕ, zero, suc, _+_, _-_, _<_, _≤_}
-use mathlib.Core.Path.{_≡_, refl, ap, sym, _∙_}
+use mathlib.Core.Path.{_≡_, refl, sym, _∙_}
 use mathlib.Core.Logic.{_≢_}
 use mathlib.Core.Bool.{Bool, true, false, cond, not, _&&_, _||_}
 use mathlib.Core.List.{List}
 use native.Mathlib.Omega.{arith}
 use native.Mathlib.Decide.{ℕ-discrete, decLt}
 use lib.Dec.{eqb, ltb}
-use borrow.Author.Tests.{eqb-true, eqb-false, eq-eqb, ne-eqb, lt-ltb, le-ltb}
+use borrow.Author.Tests.{eq-eqb, ne-eqb, lt-ltb, le-ltb}
 use Rattle.names.specs.Tag as tag
 use Rattle.names.specs.Space as space
 use Rattle.names.specs.Sets.{ButtonScope, TableScope}
-use Rattle.arena.specs.Room.{freeNodes, freePieces}
+use Rattle.arena.specs.Room.{freeNodes}
 use Rattle.arena.specs.Make.{nodesOf}
 use Rattle.places.specs.Places.{pushed, cut, placeOf}
 use Rattle.places.specs.declared.Found.{Found}
@@ -28,7 +28,7 @@ use Rattle.standard.specs.Stack.{named, isCell, inScope, withoutP, withoutCell,
 use Rattle.standard.specs.Formatting.{badFormatting, spared, listed, createdRoom, createdFor, created, anewRoom, reconstructed}
 use Rattle.standard.specs.Adoption.{entryOf, fewNodes, adoption, misnestedAt, misnested}
 use Rattle.standard.specs.Step.{unknown, middleStep, lowStep, highStep, step}
-use Rattle.standard.specs.Refusals.{Refusals, refusals, applies, least, lowest, noNodes, noPieces, noPairs, fullStack, fullPlaces, elementRefusals, textRefusals, commentRefusals, createRefusals, markerRefusals, reconstructRefusals, adoptionRefusals, misnestedRefusals, onlyUnknown, onlyNothing, closePRefusals, closeCellRefusals, modeRefusals, highRefusals, middleRefusals, lowRefusals, refusalsOf}
+use Rattle.standard.specs.Refusals.{Refusals, refusals, applies, least, lowest, noNodes, noPieces, noPairs, fullStack, fullPlaces, elementRefusals, textRefusals, commentRefusals, createRefusals, markerRefusals, reconstructRefusals, adoptionRefusals, misnestedRefusals, onlyUnknown, closePRefusals, closeCellRefusals, modeRefusals, highRefusals, middleRefusals, lowRefusals, refusalsOf}
 
 -- ---- the lowest number that applies
 

@@ -1,20 +1,20 @@
 -- Creating an element for a formatting tag, and reconstructing the active formatting elements, keep a sound state sound.
 -- Assumes nothing.
-use Prim.Native.Nat.{ℕ, zero, suc, _+_, _-_, _/_, _≤_, _<_}
-use mathlib.Core.Path.{_≡_, refl, sym, _∙_}
+use Prim.Native.Nat.{ℕ, suc, _+_, _≤_, _<_}
+use mathlib.Core.Path.{_≡_, refl, _∙_}
 use mathlib.Core.Logic.{_≢_}
-use mathlib.Core.Bool.{Bool, true, false, not, _&&_, _||_}
+use mathlib.Core.Bool.{true, false, not}
 use mathlib.Core.List.{List, []}
 use native.Mathlib.Omega.{arith}
 use native.Mathlib.Decide.{ℕ-discrete}
 use native.Mathlib.Numerals.{add-one}
 use lib.ListN.{length}
-use lib.Dec.{eqb, ltb}
-use borrow.Author.Tests.{ltb-true, ltb-false, eqb-false, not-false}
+use lib.Dec.{ltb}
+use borrow.Author.Tests.{ltb-true, not-false}
 use Rattle.theory.specs.Fn.{at}
 use Rattle.names.specs.Space as space
 use Rattle.names.specs.Sets.{isIn, Formatting}
-use Rattle.lent.specs.Mem.{NODES, PAIRS, slots, field, KIND, SPACE, NAME, ELEMENT}
+use Rattle.lent.specs.Mem.{NODES, slots, KIND, SPACE, NAME}
 use Rattle.arena.specs.Room.{freeNodes, freePairs}
 use Rattle.arena.specs.Make.{isTemplate}
 use Rattle.arena.specs.declared.make.Tag.{Tag}
@@ -31,9 +31,9 @@ use Rattle.sound.specs.State.{SoundFull}
 use Rattle.standard.specs.Pairs.{pairsIn, fine}
 use Rattle.standard.specs.Small.{room}
 use Rattle.standard.specs.Insertion.{usualPlace, badPairs, newTag, elementIn, pushedIf, elementDone}
-use Rattle.standard.specs.Formatting.{sameTag, surplus, spared, listed, createdRoom, createdFor, badFormatting, created}
-use Rattle.formatting.proofs.SurplusLaws.{surplus-below}
-use Rattle.formatting.proofs.CreateLaws.{formatting-plain}
+use Rattle.standard.specs.Formatting.{spared, listed, createdRoom, createdFor, badFormatting, created}
+use Rattle.entries.proofs.SurplusLaws.{surplus-below}
+use Rattle.names.proofs.Members.{formatting-plain}
 use Rattle.kept.specs.Room.{held-in, room-nodes, room-pairs}
 use Rattle.kept.specs.Keeps.{Keeps, either, or-false}
 use Rattle.kept.specs.Parts.{list-sound}

@@ -1,7 +1,7 @@
 -- The adoption agency, 4.3 to 4.13, where a furthest block is found: what the searches say of the formatting element and of the block,
 -- and that the inner loop keeps a sound state sound from there.
 -- Assumes nothing.
-use Prim.Native.Nat.{ℕ, suc, _+_, _-_, _≤_, _<_}
+use Prim.Native.Nat.{ℕ, suc, _+_, _≤_, _<_}
 use mathlib.Core.Path.{_≡_, refl, sym, _∙_}
 use mathlib.Core.Logic.{_≢_}
 use mathlib.Core.Bool.{Bool, true, false}
@@ -14,15 +14,15 @@ use borrow.Author.Tests.{eqb-true, eqb-false}
 use Rattle.names.specs.Space as space
 use Rattle.names.specs.Tag as tag
 use Rattle.names.specs.Sets.{isIn, member, formatting, special, Formatting, Special, DefaultScope}
-use Rattle.names.proofs.Members.{formatting-not-special}
+use Rattle.names.proofs.Members.{formatting-not-special, formatting-plain}
 use Rattle.theory.specs.Fn.{at}
 use Rattle.lent.specs.Mem.{NODES, slots, field, KIND, SPACE, NAME, ELEMENT}
 use Rattle.arena.proofs.Lengths.{slots-same}
-use Rattle.arena.proofs.Ancestors.{kind-free}
 use Rattle.places.specs.Places as places
 use Rattle.places.specs.Places.{same, never, placeOf, lastWith}
 use Rattle.places.specs.declared.Found.the-variants.{At}
 use Rattle.places.proofs.Laws.{down-last}
+use Rattle.places.proofs.First.{first-from}
 use Rattle.state.specs.Full.{Full}
 use Rattle.sound.specs.Sound.{MARKER}
 use Rattle.sound.specs.State.{SoundFull}
@@ -30,12 +30,10 @@ use Rattle.standard.specs.Html.{isHtml}
 use Rattle.standard.specs.Place.{isFosterStop}
 use Rattle.standard.specs.Stack.{isOf, named, inScope}
 use Rattle.standard.specs.Adoption.{Inner, entryOf, furthestOf, started, inner}
-use Rattle.formatting.proofs.CreateLaws.{formatting-plain}
 use Rattle.kept.specs.Keeps.{and-true, or-false}
 use Rattle.kept.specs.Same.{open-used}
-use Rattle.kept.specs.Attach.{late-free}
 use Rattle.kept.specs.Tree.{stack-once}
-use Rattle.kept.specs.Scope.{down-clear, special-at, scope-stop}
+use Rattle.kept.specs.Scope.{down-clear, scope-stop}
 use Rattle.kept.specs.Stands.{Misses}
 use Rattle.kept.specs.Loop.{InnerSound}
 use Rattle.kept.specs.Inner.{inner-sound}
@@ -61,14 +59,14 @@ blocked-at f o name j s k p a b c d =
     let g = down-last (named (f .nodes .mem) name) (same MARKER) (f .list .held) (length (f .list .held)) j a in
     let x = down-last (same fe) never h n s b in
     let y = down-last (same fe) (isOf DefaultScope (f .nodes .mem)) h n k c in
-    let t = special-at (f .nodes .mem) h (s + 1) (n - (s + 1)) p d in
+    let t = first-from (isOf Special (f .nodes .mem)) h (s + 1) p d in
     let w = o .stack .all in
     record {
       entry = omega (arith, g .below, o .list .all);
       later = omega (arith, t .from);
-      deep = omega (arith, t .below, x .below);
+      deep = omega (arith, t .below);
       is = eqb-true (at h s) fe (x .has);
-      special = t .special;
+      special = t .has;
       clear = λ i l q. down-clear (same fe) (isOf DefaultScope (f .nodes .mem)) h n k c i (scope i l (eqb-true (at h s) fe (x .has)) (eqb-true (at h k) fe (y .has)) (omega (arith, x .below)) (omega (arith, y .below))) (omega arith);
     }
   where
@@ -172,14 +170,6 @@ module _ (f : Full) (o : SoundFull f) {s j p : ℕ} (b : Blocked f s j p) where
     inner-clear k l h =
         let t = e .since .after k l h in
         rw (t .kind, t .space, t .name) (scope-stop (f .nodes .mem) (at (f .stack .held) (t .place)) (b .clear (t .place) (t .later) (t .deep)))
-
-    -- the block is special, and no template
-    pub inner-special : block ≡ at (f .stack .held) p → isOf Special (w .full .nodes .mem) block ≡ true
-    unfolding isOf
-    inner-special q =
-        let v = e .since .fields (at (f .stack .held) p) in
-        rw (q, v KIND (block-used .1) kind-free, v SPACE (block-used .1) (late-free SPACE (omega arith) (omega arith)), v NAME (block-used .1) (late-free NAME (omega arith) (omega arith)))
-        (b .special)
 
     pub inner-plain : isHtml (w .full .nodes .mem) block tag.template ≡ false
     unfolding isFosterStop places.at

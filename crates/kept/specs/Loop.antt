@@ -14,7 +14,7 @@ use lib.Seq.{getD-set-same, getD-set-other}
 use lib.Dec.{ltb}
 use borrow.Author.Tests.{ltb-false}
 use Rattle.theory.specs.Fn.{at}
-use Rattle.lent.specs.Mem.{NODES, slots, field, KIND, SPACE, NAME, ELEMENT}
+use Rattle.lent.specs.Mem.{NODES, slots, field, KIND, SPACE, NAME}
 use Rattle.arena.proofs.Lengths.{slots-same}
 use Rattle.arena.proofs.Others.{NoLink}
 use Rattle.arena.proofs.Ancestors.{kind-free}
@@ -83,14 +83,6 @@ module _ {b : Full} {fe block s : ℕ} {w : Inner} where
   pub other-fe : {k counter : ℕ} → InnerSound b fe block s w k counter → (i : ℕ) → i < w .full .stack .size → s < i → at (w .full .stack .held) i ≢ fe
   unfolding places.at
   other-fe o i h l e = stack-once (w .full) (o .sound) s i l h (o .formatting ∙ sym e)
-
-  -- lastNode is an element, and not the root
-  pub last-element : {k counter : ℕ} → InnerSound b fe block s w k counter → field (w .full .nodes .mem) (w .last) KIND ≡ ELEMENT
-  last-element {k} o = rw (o .last) at (o .sound .sound .tree .stack .elements k (o .deep))
-
-  pub last-root : {k counter : ℕ} → InnerSound b fe block s w k counter → w .last ≢ 2
-  unfolding places.at
-  last-root {k} o e = stack-once (w .full) (o .sound) 0 k (omega (arith, o .below)) (o .deep) (o .sound .sound .tree .stack .root ∙ sym (o .last ∙ e))
 
 -- ---- the node at place i leaves the stack
 

@@ -31,7 +31,7 @@ use Rattle.standard.specs.Pairs.{pairsIn}
 use Rattle.standard.specs.Insertion.{usualPlace, pushes, badTag, badPairs, newTag, elementIn, pushedIf, elementDone, elementRoom, inserted-element, commentPlace, commentAt, inserted-comment, newText, joinedText, textAt, inserted-text}
 use Rattle.standard.specs.Small.{room}
 use Rattle.standard.specs.Formatting.{badFormatting, listed, createdRoom, createdFor, created, firstLost, anewAt, anew, anewRoom, reconstructed}
-use Rattle.formatting.proofs.CreateLaws.{formatting-plain}
+use Rattle.names.proofs.Members.{formatting-plain}
 use Rattle.kept.specs.Keeps.{or-false}
 use Rattle.kept.specs.Room.{held-in, room-node, room-nodes, room-piece, fresh-next}
 use Rattle.kept.specs.Attach.{attached-field, late-free}

@@ -2,29 +2,29 @@
 -- place, opened, and takes the entry's place in the list.
 -- Assumes nothing.
 use Prim.Native.Nat.{ℕ, zero, suc, _+_, _-_, _≤_, _<_}
-use mathlib.Core.Path.{_≡_, refl, sym, _∙_}
+use mathlib.Core.Path.{_≡_, refl, _∙_}
 use mathlib.Core.Logic.{_≢_}
-use mathlib.Core.Bool.{Bool, true, false, _||_}
+use mathlib.Core.Bool.{false}
 use mathlib.Core.List.{List, [], _∷_, _++_}
 use native.Mathlib.Omega.{arith}
 use native.Mathlib.Numerals.{add-one}
-use lib.ListN.{length, take, set, length-set}
+use lib.ListN.{length, take}
 use lib.Seq.{getD-set-other}
 use lib.Dec.{eqb, ltb}
 use borrow.Author.Tests.{ltb-false, eqb-false}
 use Rattle.theory.specs.Fn as fn
 use Rattle.theory.specs.Natural.{Natural}
-use Rattle.lent.specs.Mem.{NODES, slots, field, up, KIND, SPACE, NAME, ELEMENT}
+use Rattle.lent.specs.Mem.{NODES, slots, up, KIND, SPACE, NAME}
 use Rattle.arena.specs.Room.{freeNodes}
 use Rattle.arena.specs.Make.{copied, tagOf}
 use Rattle.arena.proofs.Lengths.{slots-same}
 use Rattle.arena.proofs.Ancestors.{kind-free}
-use Rattle.places.specs.Places.{Places, Whole, at, pushed, swapped, lastWith, down, never, placeOf}
+use Rattle.places.specs.Places.{Places, at, pushed, swapped, lastWith, down, never, placeOf}
 use Rattle.places.specs.declared.Found.{Found}
 use Rattle.places.specs.declared.Found.the-variants.{At, Nothing}
 use Rattle.places.proofs.Laws.{down-last}
 use Rattle.state.specs.Full.{Full, withNodes, withStack, withList}
-use Rattle.sound.specs.Sound.{Entries, MARKER}
+use Rattle.sound.specs.Sound.{MARKER}
 use Rattle.sound.specs.State.{SoundFull}
 use Rattle.standard.specs.Place.{attached}
 use Rattle.standard.specs.Insertion.{usualPlace}

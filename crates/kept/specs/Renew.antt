@@ -11,8 +11,7 @@ use native.Mathlib.Decide.{ℕ-discrete}
 use lib.ListN.{length, take, drop, set, length-set}
 use lib.Seq.{split-at, drop-cons, set-split, take-all}
 use Rattle.theory.specs.Fn.{at, Upd, upd-set}
-use Rattle.theory.specs.Ord.{clone}
-use Rattle.theory.specs.Round.{copied}
+use Rattle.theory.specs.Ord.{clone, copied}
 use Rattle.theory.specs.Natural.{Natural, natural→ord, ord→natural}
 use Rattle.lent.specs.Mem.{NODES, slots, field, up, KIND, TIE, SPACE, NAME, ELEMENT}
 use Rattle.arena.specs.Make as make

@@ -56,10 +56,6 @@ module _ {m m′ : List ℕ} {c : ℕ} (w : Same m m′ c) where
         name = w .rest x NAME z h (omega arith) (omega arith) ∙ t .name;
       }
 
-  -- fields from TIE on, but END
-  clear-rest : (x a b : ℕ) → 0 < x → x ≤ c → TIE ≤ a → b ≤ END → Clear m x a b → Clear m′ x a b
-  clear-rest x a b z h i j k = record { zero = λ f p q. w .rest x f z h (omega arith) (omega arith) ∙ k .zero f p q }
-
   -- and END, of a node that is no text
   clear-all : (x a : ℕ) → 0 < x → x ≤ c → TIE ≤ a → field m x KIND ≢ TEXT → Clear m x a SPARE → Clear m′ x a SPARE
   clear-all x a z h i d k = record { zero = λ f p q. by f p q (ℕ-discrete f END) }

@@ -1,7 +1,7 @@
--- What the searches of the adoption agency find: an entry in scope has no element of the scope after it, and the furthest block is a
--- special element after the formatting element. And that formatting names have end tags.
+-- What the searches of the adoption agency find: an entry in scope has no element of the scope after it. And that formatting names have
+-- end tags, and none has not.
 -- Assumes nothing.
-use Prim.Native.Nat.{ℕ, zero, suc, _+_, _≤_, _<_}
+use Prim.Native.Nat.{ℕ, zero, suc, _<_}
 use mathlib.Core.Path.{_≡_, refl, sym, _∙_}
 use mathlib.Core.Bool.{Bool, true, false, cond}
 use mathlib.Core.List.{List}
@@ -11,16 +11,22 @@ use lib.ListN.{length, getD}
 use borrow.Author.Tests.{eqb-true}
 use Rattle.names.specs.Space as space
 use Rattle.names.specs.Tag as tag
+use Rattle.names.specs.Numbers.{none, isName}
 use Rattle.names.specs.Sets.{isIn, Formatting, Special, DefaultScope, defaultScope}
+use Rattle.names.proofs.Known.{none-no-name}
 use Rattle.places.specs.Places.{Places, down, same, never, lastWith, placeOf}
+use Rattle.places.specs.declared.Found.{Found}
 use Rattle.places.specs.declared.Found.the-variants.{At, Nothing}
 use Rattle.places.proofs.Laws.{never-at, at-at, down-last}
+use Rattle.state.specs.Full.{Full}
+use Rattle.sound.specs.State.{SoundFull}
 use Rattle.standard.specs.Html.{isHtml}
 use Rattle.standard.specs.Small.{MARKER}
 use Rattle.standard.specs.Place.{isFosterStop}
-use Rattle.standard.specs.Stack.{isOf, named, badEndTag}
-use Rattle.standard.specs.Adoption.{entryOf, specialFrom}
-use Rattle.formatting.proofs.CreateLaws.{formatting-plain}
+use Rattle.standard.specs.Stack.{isOf, named, inScope, badEndTag, endedAt, endTag}
+use Rattle.standard.specs.Adoption.{entryOf}
+use Rattle.names.proofs.Members.{formatting-plain}
+use Rattle.kept.specs.Same.{open-used}
 use Rattle.kept.specs.Usual.{is-html}
 
 -- ---- the search for a node, and for an entry of the list by its name
@@ -52,24 +58,6 @@ down-clear hit stop h (suc k) i e j a b = by (hit (getD h k 0)) (stop (getD h k 
         last (yes z) = rw z s
         last (no z) = r g j a (omega arith)
 
--- ---- the search for the furthest block
-
--- entry b is special, and one of the n entries from k on
-pub record Block (m xs : List ℕ) (k n b : ℕ) : Type 0 where
-  pub from : k ≤ b
-  pub below : b < k + n
-  pub special : isOf Special m (getD xs b 0) ≡ true
-
-pub special-at : (m xs : List ℕ) (k n b : ℕ) → specialFrom m xs k n ≡ At b → Block m xs k n b
-unfolding specialFrom
-special-at m xs k zero b e = absurd (never-at b e)
-special-at m xs k (suc n) b e = by (isOf Special m (getD xs k 0)) refl e (special-at m xs (k + 1) n b)
-  where
-    by : (p : Bool) → isOf Special m (getD xs k 0) ≡ p → cond p (At k) (specialFrom m xs (k + 1) n) ≡ At b
-        → (specialFrom m xs (k + 1) n ≡ At b → Block m xs (k + 1) n b) → Block m xs k (suc n) b
-    by true h g r = let z : k ≡ b = at-at k b g in record { from = omega arith; below = omega arith; special = rw (← z) h }
-    by false h g r = let t = r g in record { from = omega (arith, t .from); below = omega (arith, t .below); special = t .special }
-
 -- ---- names
 
 -- tables and templates are of the default scope
@@ -87,12 +75,29 @@ pub scope-stop : (m : List ℕ) (n : ℕ) → isOf DefaultScope m n ≡ false �
 unfolding isFosterStop defaultScope
 scope-stop m n e = rw (scope-html m n tag.template refl e, scope-html m n tag.table refl e)
 
-pub scope-plain : (m : List ℕ) (n : ℕ) → isOf DefaultScope m n ≡ false → isHtml m n tag.template ≡ false
-unfolding defaultScope
-scope-plain m n e = scope-html m n tag.template refl e
-
 pub formatting-ends : (name : ℕ) → isIn Formatting space.html name ≡ true → badEndTag name ≡ false
 unfolding badEndTag
 formatting-ends name e =
     let k = formatting-plain name e in
     rw (k .known, k .no-html)
+
+-- no open element is without a name: the steps of "any other end tag" for name 0 end nothing
+pub end-tag-none : (f : Full) → SoundFull f → endTag (f .nodes .mem) (f .stack) none ≡ f .stack
+unfolding endTag endedAt inScope lastWith
+end-tag-none f o = by (down (named m none) (isOf Special m) h (length h)) refl
+  where
+    m : List ℕ
+    m = f .nodes .mem
+
+    h : List ℕ
+    h = f .stack .held
+
+    by : (q : Found) → down (named m none) (isOf Special m) h (length h) ≡ q → endedAt q m (f .stack) none ≡ f .stack
+    by Nothing e = refl
+    by (At i) e =
+        let t = down-last (named m none) (isOf Special m) h (length h) i e in
+        let w = is-html m (getD h i 0) none (t .has) in
+        let u = open-used (o .sound) i (omega (arith, t .below, o .stack .all)) in
+        let k : isName none ≡ true = rw (w .name) at (o .sound .tree .kinds .kind (getD h i 0) (u .0) (u .1) .element (w .kind) .tag .named) in
+        let x : true ≡ false = sym k ∙ none-no-name in
+        absurd (let z : _≡_ {A = ℕ} 0 1 = cc in omega arith)

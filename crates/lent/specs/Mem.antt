@@ -1,7 +1,7 @@
 -- Lent bytes as regions of numbered slots, each of some 16-bit fields: what a load gives and what a store makes of the bytes.
 -- Assumes nothing.
 use Prim.Native.Nat.{ℕ, _+_, _*_, _/_, _%_, min}
-use mathlib.Core.Bool.{Bool, true, false, cond}
+use mathlib.Core.Bool.{Bool, cond}
 use mathlib.Core.List.{List}
 use lib.ListN.{getD, set, length}
 use lib.Dec.{eqb, ltb}

@@ -12,7 +12,7 @@ use lib.ListN.{length}
 use lib.Dec.{eqb}
 use Rattle.lent.specs.Mem.{field, PARENT, PREV, NEXT, FIRST, LAST}
 use Rattle.lent.specs.Tree.{links}
-use Rattle.theory.specs.Kids.{Mem, Kids}
+use Rattle.theory.specs.Kids.{Kids}
 use Rattle.theory.specs.Pigeon.{walk}
 use Rattle.theory.specs.Count.{lists, roots, counted, counts, lists-more, lists-none, roots-none, roots-bare, roots-other}
 use Rattle.theory.specs.Check.{Nodes, run, checked→kids, kids→checked}

@@ -1,6 +1,6 @@
 // The links of the lent nodes: each list of children is whole, and each child is met once.
 ghost use mathlib.Core.Path.{_≡_};
-ghost use Prim.Native.Nat.{_≤_, _<_, _+_, suc};
+ghost use Prim.Native.Nat.{_≤_, _<_, _+_};
 ghost use lib.ListN.{length};
 ghost use Rattle.lent.specs.Mem.{field, NEXT, PARENT, FIRST};
 ghost use Rattle.theory.specs.Says.{Says};

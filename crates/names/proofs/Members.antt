@@ -1,4 +1,4 @@
--- What holds of each name of a set, from one test over the set. Two uses of it.
+-- What holds of each name of a set, from one test over the set; and what holds of formatting names.
 -- Assumes nothing.
 use mathlib.Core.Path.{_≡_, refl, sym, _∙_}
 use mathlib.Core.Bool.{Bool, true, false, not, _&&_, _||_, false≢true}
@@ -7,7 +7,10 @@ use Prim.Native.Nat.{ℕ, zero, suc}
 use lib.Dec.{T, eqb}
 use mir.Facts.{and-yes}
 use borrow.Author.Tests.{eqb-true}
-use Rattle.names.specs.Sets.{Names, member, namesIn, formatting, special, tableScope, defaultScope}
+use Rattle.names.specs.Space as space
+use Rattle.names.specs.Tag as tag
+use Rattle.names.specs.Numbers.{inTable, isName}
+use Rattle.names.specs.Sets.{Names, member, namesIn, isIn, formatting, Formatting, special}
 
 pub is-true : (b : Bool) → T b → b ≡ true
 is-true true t = refl
@@ -56,7 +59,18 @@ pub formatting-not-special : (n : ℕ) → member n formatting ≡ true → memb
 unfolding formatting special
 formatting-not-special n e = is-false (member n special) (every-at (λ k. not (member k special)) formatting tt n e)
 
--- each name of table scope is one of default scope
-pub table-in-default : (n : ℕ) → member n tableScope ≡ true → member n defaultScope ≡ true
-unfolding tableScope defaultScope
-table-in-default n e = is-true (member n defaultScope) (every-at (λ k. member k defaultScope) tableScope tt n e)
+-- each formatting name is a known one, and none of them is `html` or `template`
+plainName : ℕ → Bool
+plainName k = isName k && (not (eqb k tag.html) && not (eqb k tag.template))
+
+pub record Plain (name : ℕ) : Type 0 where
+  pub known : isName name ≡ true
+  pub no-html : eqb name tag.html ≡ false
+  pub no-template : eqb name tag.template ≡ false
+
+pub formatting-plain : (name : ℕ) → isIn Formatting space.html name ≡ true → Plain name
+unfolding plainName formatting isName inTable
+formatting-plain name e =
+    let a = and-yes (isName name) (not (eqb name tag.html) && not (eqb name tag.template)) (every-at plainName formatting tt name e) in
+    let b = and-yes (not (eqb name tag.html)) (not (eqb name tag.template)) (a .1) in
+    record { known = is-true (isName name) (a .0); no-html = is-false (eqb name tag.html) (b .0); no-template = is-false (eqb name tag.template) (b .1) }

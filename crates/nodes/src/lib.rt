@@ -1,6 +1,5 @@
 // What a node must be, by its kind.
-ghost use mathlib.Core.Path.{_≡_};
-ghost use Prim.Native.Nat.{ℕ, _≤_, _<_, _+_};
+ghost use Prim.Native.Nat.{_≤_, _<_, _+_};
 ghost use Rattle.lent.specs.Mem.{field, SPACE, NAME, MARK};
 ghost use Rattle.theory.specs.Says.{Says};
 ghost use Rattle.nodes.specs.Nodes.{Template, Clear, Partner, Absent, Distinct, Span, Tag, Ties, Rooted, Element, Contents, Document, Comment, Kind};

@@ -1,7 +1,5 @@
 // No stack entry is above an earlier one, and none is there twice.
-ghost use mathlib.Core.Path.{_≡_};
-ghost use mathlib.Core.Logic.{_≢_};
-ghost use Prim.Native.Nat.{ℕ, suc, _≤_, _<_, _+_};
+ghost use Prim.Native.Nat.{ℕ, _≤_, _<_, _+_};
 ghost use lib.ListN.{length, take, getD};
 ghost use Rattle.lent.specs.Mem.{up};
 ghost use Rattle.theory.specs.Says.{Says};

@@ -1,15 +1,14 @@
 -- Laws of places: searches, and what the loops that shift, open and cut have done so far.
 -- Assumes nothing.
-use Prim.Native.Nat.{ℕ, zero, suc, _+_, _-_, _≤_, _<_, min}
+use Prim.Native.Nat.{ℕ, zero, suc, _+_, _-_, _≤_, _<_}
 use mathlib.Core.Path.{_≡_, refl, ap, sym, _∙_}
-use mathlib.Core.Bool.{Bool, true, false, cond}
+use mathlib.Core.Bool.{Bool, true, false}
 use mathlib.Core.List.{List, [], _∷_, _++_}
 use native.Mathlib.Numerals.{add-one}
 use native.Mathlib.Omega.{arith}
 use native.Mathlib.Decide.{decLt}
-use lib.Dec.{eqb}
-use lib.ListN.{length, getD, take, drop, set, replicate, length-append, length-take, length-drop, length-set, take-append-drop, List·getD-append}
-use lib.Seq.{getD-at, take-append-add, take-at, take-add, drop-drop, take-take, set-split, append-snoc, set-append-left, take-append-le, drop-cons, length-take-le, getD-take, take-suc, drop-at, set-at, getD-append-add, getD-drop, drop-append-add, take-set-lt, drop-set-lt}
+use lib.ListN.{length, getD, take, drop, set, replicate, length-append, length-take, length-drop, take-append-drop, List·getD-append}
+use lib.Seq.{getD-at, take-append-add, take-at, take-add, drop-drop, take-take, set-split, append-snoc, take-append-le, drop-cons, length-take-le, getD-take, take-suc, drop-at, set-at, getD-append-add, getD-drop, take-set-lt, drop-set-lt}
 use borrow.Author.Tests.{eq-eqb, ne-eqb, lt-ltb, le-ltb}
 use Rattle.places.specs.declared.Found.{Found}
 use Rattle.places.specs.declared.Found.the-variants.{At, Nothing}

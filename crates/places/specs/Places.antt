@@ -4,7 +4,7 @@
 -- Assumes nothing.
 use Prim.Native.Nat.{ℕ, zero, suc, _+_, _-_}
 use mathlib.Core.Path.{_≡_}
-use mathlib.Core.Bool.{Bool, true, false, cond}
+use mathlib.Core.Bool.{Bool, false, cond}
 use mathlib.Core.List.{List, [], _∷_, _++_}
 use lib.ListN.{length, getD, take, drop, set, replicate}
 use lib.Dec.{eqb, ltb}
@@ -61,6 +61,11 @@ down hit stop xs (suc k) = cond (hit (getD xs k 0)) (At k) (cond (stop (getD xs 
 unfoldable pub firstOf : Found → Found → Found
 firstOf (At i) other = At i
 firstOf Nothing other = other
+
+-- the first entry of xs that has p, where the entries of xs are numbered from k on
+unfoldable pub firstWith : (ℕ → Bool) → List ℕ → ℕ → Found
+firstWith p [] k = Nothing
+firstWith p (x ∷ xs) k = cond (p x) (At k) (firstWith p xs (k + 1))
 
 abbrev pub never : ℕ → Bool
 never x = false

@@ -5,8 +5,8 @@ use mathlib.Core.Path.{_≡_}
 use mathlib.Core.List.{List}
 use Rattle.sound.specs.State.{SoundFull}
 use Rattle.state.specs.declared.State.{State}
-use Rattle.calls.specs.Public.{whole, Checked}
-use Rattle.calls.proofs.Complete.{checked-one}
+use Rattle.edge.specs.Public.{whole, Checked}
+use Rattle.edge.proofs.Complete.{checked-one}
 use Rattle.queries.specs.declared.Asked.{Asked}
 use Rattle.queries.specs.Told.{refused}
 use Rattle.queries.specs.Reset.{resetMode}

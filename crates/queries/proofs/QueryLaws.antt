@@ -15,7 +15,7 @@ use Rattle.state.specs.Fields.{coreOf}
 use Rattle.standard.specs.Html.{isHtml}
 use Rattle.sound.specs.State.{SoundFull}
 use Rattle.kept.specs.Step.{sound-ready, sound-modes}
-use Rattle.calls.specs.Public.{whole}
+use Rattle.edge.specs.Public.{whole}
 use Rattle.queries.specs.declared.Asked.{Asked}
 use Rattle.queries.specs.declared.element.Expanded.{Expanded}
 use Rattle.queries.specs.declared.reset.Reset.{Reset}

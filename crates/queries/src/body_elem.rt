@@ -2,12 +2,11 @@
 ghost use mathlib.Core.Path.{_≡_};
 ghost use Rattle.places.specs.Places.{placesOf};
 ghost use Rattle.sound.specs.State.{SoundFull};
-ghost use Rattle.calls.specs.Public.{whole, Checked};
+ghost use Rattle.edge.specs.Public.{whole, Checked};
 ghost use Rattle.queries.specs.Told.{refused};
 ghost use Rattle.queries.specs.BodyElem.{second, given, bodyElem};
 use crate::Asked;
 use builder::html;
-use calls::run;
 use lent::Node;
 use names::tag;
 use state::State;
@@ -55,7 +54,7 @@ pub fn body_elem(
 ) -> Asked
     ensures { λ r. ⌜ Checked (SoundFull (whole state (now (nodes .entry)) (now (list .entry)) (now (modes .entry)) (now (pieces .entry)) (now (pairs .entry)))) r (bodyElem (whole state (now (nodes .entry)) (now (list .entry)) (now (modes .entry)) (now (pieces .entry)) (now (pairs .entry)))) (refused 1) ⌝ }
 {
-    if !run::is_sound(state, nodes, list, modes, pieces, pairs) {
+    if !edge::is_sound(state, nodes, list, modes, pieces, pairs) {
         return Asked {
             answer: 1,
             value: 0,

@@ -3,13 +3,12 @@ ghost use mathlib.Core.Path.{_≡_};
 ghost use Prim.Native.Nat.{_<_, _≤_};
 ghost use Rattle.places.specs.Places.{placesOf};
 ghost use Rattle.sound.specs.State.{SoundFull};
-ghost use Rattle.calls.specs.Public.{whole, Checked};
+ghost use Rattle.edge.specs.Public.{whole, Checked};
 ghost use Rattle.queries.specs.Told.{refused};
 ghost use Rattle.queries.specs.Foreign.{isCharacters, badToken, forTextPoint, forAnnotation, forHtmlPoint, isHtmlContent, adjusted, isForeign};
 use crate::Asked;
 use crate::element;
 use crate::element::Expanded;
-use calls::run;
 use lent::Node;
 use names::Name;
 use names::Namespace;
@@ -143,7 +142,7 @@ pub fn is_foreign(
 ) -> Asked
     ensures { λ r. ⌜ Checked (SoundFull (whole state (now (nodes .entry)) (now (list .entry)) (now (modes .entry)) (now (pieces .entry)) (now (pairs .entry)))) r (isForeign (whole state (now (nodes .entry)) (now (list .entry)) (now (modes .entry)) (now (pieces .entry)) (now (pairs .entry))) kind name) (refused 1) ⌝ }
 {
-    if !run::is_sound(state, nodes, list, modes, pieces, pairs) {
+    if !edge::is_sound(state, nodes, list, modes, pieces, pairs) {
         return Asked {
             answer: 1,
             value: 0,

@@ -4,13 +4,12 @@ ghost use Prim.Native.Nat.{_≤_};
 ghost use lib.ListN.{length};
 ghost use Rattle.places.specs.Places.{placesOf};
 ghost use Rattle.sound.specs.State.{SoundFull};
-ghost use Rattle.calls.specs.Public.{whole, Checked};
+ghost use Rattle.edge.specs.Public.{whole, Checked};
 ghost use Rattle.queries.specs.Told.{refused};
 ghost use Rattle.queries.specs.Reset.{modeFor, modeAt, walked, given, resetMode};
 use crate::Asked;
 use crate::element;
 use crate::element::Expanded;
-use calls::run;
 use lent::Node;
 use names::Namespace;
 use names::tag;
@@ -167,7 +166,7 @@ pub fn reset_insertion_mode(
 ) -> Asked
     ensures { λ r. ⌜ Checked (SoundFull (whole state (now (nodes .entry)) (now (list .entry)) (now (modes .entry)) (now (pieces .entry)) (now (pairs .entry)))) r (resetMode (whole state (now (nodes .entry)) (now (list .entry)) (now (modes .entry)) (now (pieces .entry)) (now (pairs .entry)))) (refused 1) ⌝ }
 {
-    if !run::is_sound(state, nodes, list, modes, pieces, pairs) {
+    if !edge::is_sound(state, nodes, list, modes, pieces, pairs) {
         return Asked {
             answer: 1,
             value: 0,

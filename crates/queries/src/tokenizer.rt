@@ -1,11 +1,10 @@
 // 13.4, parsing fragments: the tokenizer's state by the context element.
 ghost use mathlib.Core.Path.{_≡_};
 ghost use Rattle.sound.specs.State.{SoundFull};
-ghost use Rattle.calls.specs.Public.{whole, Checked};
+ghost use Rattle.edge.specs.Public.{whole, Checked};
 ghost use Rattle.queries.specs.Told.{refused};
 ghost use Rattle.queries.specs.Tokenizer.{stateFor, stateIn, given, forContext, tokenizerState};
 use crate::Asked;
-use calls::run;
 use names::Namespace;
 use names::tag;
 use state::Context;
@@ -105,7 +104,7 @@ pub fn tokenizer_state_for_context_elem(
 ) -> Asked
     ensures { λ r. ⌜ Checked (SoundFull (whole state (now (nodes .entry)) (now (list .entry)) (now (modes .entry)) (now (pieces .entry)) (now (pairs .entry)))) r (tokenizerState (whole state (now (nodes .entry)) (now (list .entry)) (now (modes .entry)) (now (pieces .entry)) (now (pairs .entry))) scripting) (refused 1) ⌝ }
 {
-    if !run::is_sound(state, nodes, list, modes, pieces, pairs) {
+    if !edge::is_sound(state, nodes, list, modes, pieces, pairs) {
         return Asked {
             answer: 1,
             value: 0,

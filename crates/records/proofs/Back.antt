@@ -21,8 +21,9 @@ use Rattle.records.specs.declared.Item.{Item}
 use Rattle.records.specs.declared.Item.the-variants as is
 use Rattle.records.specs.Number.{numberAt}
 use Rattle.records.specs.Record.{asked, skipThen, skipAt, andThen, endThen, pick, countOf, pairsOf, numberIf, pairsAt, argumentsAt, itemAt}
-use Rattle.records.proofs.Numbers.{encoded, Stands, Back, number-back}
-use Rattle.records.proofs.Records.{encodedAll, flat, pairNumbers, recordOf, Low, Written, count-few, item-unknown, item-call}
+use Rattle.records.specs.Written.{encoded, encodedAll, flat, pairNumbers, recordOf, Low, Written, Stands}
+use Rattle.records.proofs.Numbers.{Back, number-back}
+use Rattle.records.proofs.Records.{count-few, item-unknown, item-call}
 
 -- ---- what stands one after the other
 

@@ -1,10 +1,10 @@
--- Numbers in unsigned LEB128, written from its definition: seven bits a byte, the low ones first, and the high bit set on all bytes but
--- the last. `numberAt` reads what is so written, up to 65,535, wherever it stands, and reads nothing else: so only the shortest form.
+-- Numbers in unsigned LEB128 (`specs/Written.antt`): `numberAt` reads what is so written, up to 65,535, wherever it stands, and reads
+-- nothing else: so only the shortest form.
 -- Assumes nothing.
 use Prim.Native.Nat.{ℕ, zero, suc, _+_, _-_, _*_, _/_, _%_, _≤_, _<_}
 use mathlib.Core.Path.{_≡_, refl, sym, ap, _∙_}
 use mathlib.Core.Logic.{_↔_}
-use mathlib.Core.Bool.{Bool, true, false, cond}
+use mathlib.Core.Bool.{Bool, true, false}
 use mathlib.Core.List.{List, [], _∷_, _++_}
 use native.Mathlib.Decide.{decLt}
 use native.Mathlib.Numerals.{add-one}
@@ -16,17 +16,9 @@ use lib.Dec.{ltb, eqb}
 use Rattle.records.specs.declared.Read.{Read}
 use Rattle.records.specs.declared.Read.the-variants.{Number, Bad}
 use Rattle.records.specs.Number.{numberAt, second, third, if_then_else}
+use Rattle.records.specs.Written.{encodedBy, encoded, Stands}
 
 -- ---- LEB128
-
--- the bytes of v, at most k of them
-unfoldable pub encodedBy : ℕ → ℕ → List ℕ
-encodedBy zero v = []
-encodedBy (suc k) v = cond (ltb v 128) (v ∷ []) ((v % 128 + 128) ∷ encodedBy k (v / 128))
-
--- the bytes of v: no number has more bytes than one more than itself
-unfoldable pub encoded : ℕ → List ℕ
-encoded v = encodedBy (suc v) v
 
 by-one : (k v : ℕ) → v < 128 → encodedBy (suc k) v ≡ v ∷ []
 unfolding encodedBy
@@ -67,13 +59,6 @@ encoded-three : (v : ℕ) → 16384 ≤ v → v ≤ 65535 → encoded v ≡ (v %
 encoded-three v h l = encoded-more v (omega arith) ∙ ap (λ (x : List ℕ). (v % 128 + 128) ∷ x) (encoded-two (v / 128) (omega arith) (omega arith))
 
 -- ---- what stands where
-
--- the bytes xs stand in s from byte i on
-pub record Stands (s : List ℕ) (i : ℕ) (xs : List ℕ) : Type 0 where
-  pub before : List ℕ
-  pub after : List ℕ
-  pub whole : s ≡ before ++ (xs ++ after)
-  pub place : length before ≡ i
 
 byte : (b xs a : List ℕ) (j n : ℕ) → n ≡ length b + j → j < length xs → (n < length (b ++ (xs ++ a))) × (getD (b ++ (xs ++ a)) n 0 ≡ getD (xs ++ a) j 0)
 byte b xs a j n e h = (omega (arith, length-append b (xs ++ a), length-append xs a), rw e (getD-append-add b (xs ++ a) j 0))

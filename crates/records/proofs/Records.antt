@@ -1,50 +1,23 @@
--- Records written from document 01: a call number, then the numbers that the call takes, and for a call with pairs their count and then
--- each name and text number. `itemAt` reads what is so written, wherever it stands, as that call with those arguments.
+-- Records (`specs/Written.antt`): `itemAt` reads what is so written, wherever it stands, as that call with those arguments.
 -- Assumes nothing.
 use Prim.Native.Nat.{ℕ, zero, suc, _+_, _-_, _*_, _≤_, _<_, max}
 use mathlib.Core.Path.{_≡_, refl, sym, ap, _∙_}
 use mathlib.Core.Logic.{_≢_, _⊎_, inl, inr}
-use mathlib.Core.Bool.{cond}
 use mathlib.Core.List.{List, [], _∷_, _++_, append-assoc}
 use native.Mathlib.Decide.{ℕ-discrete}
 use native.Mathlib.Omega.{arith}
 use borrow.Author.Tests.{lt-ltb, le-ltb, eq-eqb, ne-eqb}
 use lib.ListN.{length, getD, drop, length-append}
 use lib.Seq.{getD-drop, drop-drop}
-use lib.Dec.{eqb}
 use Rattle.records.specs.declared.Read.the-variants as read
 use Rattle.records.specs.declared.Skip.the-variants as skip
 use Rattle.records.specs.declared.Item.the-variants as is
 use Rattle.records.specs.Number.{numberAt}
 use Rattle.records.specs.Pair.{valueAt, nextAt, nameAt, textAt, pairNext}
 use Rattle.records.specs.Record.{asked, skipAt, countOf, pairsOf, numberIf, pairsAt, itemAt}
+use Rattle.records.specs.Written.{encoded, encodedAll, flat, pairNumbers, recordOf, Low, Written, Stands}
 use Rattle.records.proofs.Laws.{skip-none, arguments-all, pairs-all}
-use Rattle.records.proofs.Numbers.{encoded, Stands, number-stands}
-
--- ---- how a record is written
-
--- numbers one after the other
-unfoldable pub encodedAll : List ℕ → List ℕ
-encodedAll [] = []
-encodedAll (x ∷ xs) = encoded x ++ encodedAll xs
-
--- the names and text numbers of some pairs, in order
-unfoldable pub flat : List (ℕ × ℕ) → List ℕ
-flat [] = []
-flat (p ∷ ps) = p .0 ∷ p .1 ∷ flat ps
-
--- what follows the arguments of a call: for calls 1 and 4 the count of the pairs, and the pairs
-unfoldable pub pairNumbers : ℕ → List (ℕ × ℕ) → List ℕ
-pairNumbers call ps = cond (eqb (pairsOf call) 0) [] (length ps ∷ flat ps)
-
--- the record of a call with these arguments and pairs
-unfoldable pub recordOf : ℕ → List ℕ → List (ℕ × ℕ) → List ℕ
-recordOf call args ps = encoded call ++ (encodedAll args ++ encodedAll (pairNumbers call ps))
-
--- all are at most 65,535
-abbrev pub Low : List ℕ → Type 0
-Low [] = Unit {0}
-Low (x ∷ xs) = (x ≤ 65535) × Low xs
+use Rattle.records.proofs.Numbers.{number-stands}
 
 -- ---- what stands in parts
 
@@ -196,15 +169,6 @@ module _ (s : List ℕ) (i call a b c : ℕ) (ps : List (ℕ × ℕ)) (low : Low
       by (no e) = (i + length (encoded (length ps)), some-pairs e w)
 
 -- ---- a call
-
--- the numbers of a record of a call: as many arguments as it takes, pairs only if it takes them, and none above 65,535
-pub record Written (call : ℕ) (args : List ℕ) (ps : List (ℕ × ℕ)) : Type 0 where
-  pub known : (0 < call) × (call ≤ 18)
-  pub count : length args ≡ countOf call
-  pub small : Low args
-  pub pairs : pairsOf call ≡ 0 → ps ≡ []
-  pub few : length ps ≤ 65535
-  pub smalls : Low (flat ps)
 
 -- what is read there: the call with its arguments, 0 where it takes fewer, and its pairs, which stand at `from` up to the record's end
 pub record Called (s : List ℕ) (i call : ℕ) (args : List ℕ) (ps : List (ℕ × ℕ)) (from : ℕ) : Type 0 where

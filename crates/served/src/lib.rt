@@ -1,7 +1,5 @@
 // One request on a saved state: the answer as text, and the state after it.
 ghost use Prim.Native.Nat.{_≤_};
-use calls::begin;
-use calls::run;
 use queries::Asked;
 use queries::body_elem;
 use queries::foreign;
@@ -93,7 +91,7 @@ fn ask(
     rest: &[u8],
 ) -> Given {
     if what == 2 {
-        let c = run::call(st, nodes, list, modes, pieces, pairs, rest);
+        let c = calls::call(st, nodes, list, modes, pieces, pairs, rest);
         let after = c.state;
         return Given {
             answer: c.answer,
@@ -103,7 +101,7 @@ fn ask(
         };
     }
     if what == 3 {
-        let c = run::run(st, nodes, list, modes, pieces, pairs, rest);
+        let c = calls::run(st, nodes, list, modes, pieces, pairs, rest);
         let after = c.state;
         return Given {
             answer: c.answer,
@@ -113,7 +111,7 @@ fn ask(
         };
     }
     Given {
-        answer: checked(what, run::is_sound(st, nodes, list, modes, pieces, pairs)),
+        answer: checked(what, edge::is_sound(st, nodes, list, modes, pieces, pairs)),
         result: 0,
         has: false,
         state: st,

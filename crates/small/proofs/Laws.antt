@@ -1,11 +1,12 @@
 -- The cases of the calls that touch places and flags alone, as the code meets them, for any part of the state that they are not lent.
 -- Assumes nothing.
-use Prim.Native.Nat.{ℕ, zero, suc, _+_, _-_, _<_, _≤_, min}
+use Prim.Native.Nat.{ℕ, _-_, _<_, _≤_, min}
 use mathlib.Core.Path.{_≡_, refl, sym, ap, _∙_}
-use mathlib.Core.Bool.{Bool, true, false, cond, _||_}
+use mathlib.Core.Bool.{Bool, true, false, _||_}
 use mathlib.Core.Logic.{_⊎_, inl, inr}
-use mathlib.Core.List.{List, _++_}
-use lib.ListN.{length, take, drop, length-append, take-append-drop}
+use mathlib.Core.List.{List}
+use native.Mathlib.Omega.{arith}
+use lib.ListN.{length, getD, take, drop, length-append, take-append-drop}
 use lib.Dec.{eqb, ltb}
 use borrow.Author.Tests.{lt-ltb, le-ltb, eq-eqb, ne-eqb}
 use Rattle.places.specs.Places.{Places, placesOf, pushed, cut, placeOf}
@@ -15,6 +16,8 @@ use Rattle.state.specs.declared.Core.{Core}
 use Rattle.state.specs.declared.Context.{Context}
 use Rattle.state.specs.Fields.{setDepth, setCounts, setFlags, setNodes, setList, setModes, setFoster, setHead}
 use Rattle.state.specs.Full.{Full, full, result, refused, done, withStack, withList, withModes, withNodes, withFlags}
+use Rattle.places.proofs.Laws.{at-of}
+use Rattle.standard.specs.Html.{current}
 use Rattle.standard.specs.Small.{room, MARKER, marked, clearedAt, cleared, popped, fostered, headed, moded, unmoded}
 
 -- the places are as many as were lent
@@ -166,3 +169,8 @@ module _ (s n l m p q : List ℕ) (x : Context) (c : Core) where
 
   pub unmode-none : c .counts .modes ≤ 0 → result 3 (full s c x n l m p q) ≡ unmoded (full s c x n l m p q)
   unmode-none h = unmoded-no (full s c x n l m p q) (rw (size-of m (c .counts .modes)) h)
+
+-- the current node is the last entry
+pub current-of : (s : List ℕ) (d : ℕ) → 0 < d → current (placesOf s d) ≡ getD s (d - 1) 0
+unfolding current placesOf
+current-of s d h = rw (size-of s d) (at-of s d (d - 1) (omega arith))

@@ -86,8 +86,8 @@ module _ {m q l : List ℕ} {c u d : ℕ} (t : Tree m q l c u d) (x : ℕ) (z : 
       }
 
   -- what is met from the first child by `next` is the list of children, and no node is met twice
-  pub met-once : (walk (λ n. field m n NEXT) c (field m x FIRST) ≡ t .children .kids x) × Once (t .children .kids x)
-  met-once = (
+  pub child-met-once : (walk (λ n. field m n NEXT) c (field m x FIRST) ≡ t .children .kids x) × Once (t .children .kids x)
+  child-met-once = (
     sym (kids-walk (t .children .isKids) x z h c (le-refl c)),
     run-pigeon (links m) c x 0 (t .children .kids x) 0 (λ i. lt-irrefl 0 (child 0 i .0)) (t .children .isKids .run x z h) .0,
   )

@@ -193,10 +193,10 @@ module _ {m p q l f t : List ℕ} {c v u d k s foster head : ℕ} {context : Con
   pieces-once y z h = let r = w .texts .all y z h in (r .0, housed (w .texts) y (r .0) (r .1) (r .2) (r .3))
 
   -- each text node has one piece at least, and used ones only; they are a chain from its first piece to its last, and none comes after it
-  pub text-pieces : (n : ℕ) → 0 < n → n ≤ c → field m n KIND ≡ TEXT
+  pub text-has-pieces : (n : ℕ) → 0 < n → n ≤ c → field m n KIND ≡ TEXT
       → (piecesOf m p v n ≢ []) × Within v (piecesOf m p v n)
       × Path (after p) (field m n PIECE) (piecesOf m p v n) 0 × (lst 0 (piecesOf m p v n) ≡ field m n END)
-  text-pieces n z h e =
+  text-has-pieces n z h e =
       let r = w .texts .text n z h e in rw (pieces-are (w .texts) n z h) (r .0, w .texts .used n z h, r .1, r .2)
 
   -- ---- counts

@@ -1,7 +1,7 @@
 -- A sound state as the definitions of the calls see it: the rules of `Sound` on what is in use, and 512 places for the stack.
 -- Assumes nothing.
 use mathlib.Core.Path.{_≡_}
-use Prim.Native.Nat.{ℕ, _+_}
+use Prim.Native.Nat.{_+_}
 use lib.ListN.{length}
 use Rattle.places.specs.Places.{Whole}
 use Rattle.state.specs.Full.{Full}

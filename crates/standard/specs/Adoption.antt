@@ -4,7 +4,7 @@
 use Prim.Native.Nat.{ℕ, zero, suc, _+_, _-_}
 use mathlib.Core.Bool.{Bool, true, false, cond, not}
 use mathlib.Core.List.{List}
-use lib.ListN.{length, getD}
+use lib.ListN.{drop}
 use lib.Dec.{eqb, ltb}
 use Rattle.names.specs.Tag as tag
 use Rattle.names.specs.Space as space
@@ -12,7 +12,7 @@ use Rattle.names.specs.Sets.{isIn, Formatting, Special, DefaultScope}
 use Rattle.arena.specs.Links.{appended, detached, moved}
 use Rattle.arena.specs.Make.{copied}
 use Rattle.arena.specs.Room.{freeNodes}
-use Rattle.places.specs.Places.{Places, at, same, without, within, swapped, cut, lastWith, placeOf, exchanged, left}
+use Rattle.places.specs.Places.{Places, at, same, without, within, swapped, cut, firstWith, lastWith, placeOf, exchanged, left}
 use Rattle.places.specs.declared.Found.{Found}
 use Rattle.places.specs.declared.Found.the-variants.{At, Nothing}
 use Rattle.state.specs.Full.{Full, Result, refused, done, withStack, withList, withNodes}
@@ -27,14 +27,9 @@ use Rattle.standard.specs.Stack.{isOf, named, inScope, shorter, endTag}
 unfoldable pub entryOf : List ℕ → Places → ℕ → Found
 entryOf m l name = lastWith (named m name) (same MARKER) l
 
--- the first special element of xs from place k on: n places at most
-unfoldable pub specialFrom : List ℕ → List ℕ → ℕ → ℕ → Found
-specialFrom m xs k zero = Nothing
-specialFrom m xs k (suc n) = cond (isOf Special m (getD xs k 0)) (At k) (specialFrom m xs (k + 1) n)
-
 -- 4.7: the topmost special element that is lower in the stack than entry s
 unfoldable pub furthestOf : List ℕ → Places → ℕ → Found
-furthestOf m stack s = specialFrom m (stack .held) (s + 1) (length (stack .held) - (s + 1))
+furthestOf m stack s = firstWith (isOf Special m) (drop (s + 1) (stack .held)) (s + 1)
 
 -- ---- 4.13, the inner loop
 

@@ -11,7 +11,7 @@ use Rattle.lent.specs.Mem.{PAIRS, load, field, NAME, START, COUNT}
 use Rattle.arena.specs.Room.{freeNodes, freePairs}
 use Rattle.arena.specs.Make.{copied}
 use Rattle.arena.specs.declared.make.Tag.{Tag}
-use Rattle.places.specs.Places.{Places, at, pushed, swapped, leftAt, lastWith, never, placeOf}
+use Rattle.places.specs.Places.{Places, at, pushed, swapped, leftAt, firstWith, lastWith, never, placeOf}
 use Rattle.places.specs.declared.Found.{Found}
 use Rattle.places.specs.declared.Found.the-variants.{At, Nothing}
 use Rattle.state.specs.Full.{Full, Result, refused, done, withStack, withList, withNodes}
@@ -80,14 +80,10 @@ unfoldable pub sameTag : List ℕ → List ℕ → ℕ → List (ℕ × ℕ) →
 sameTag m q name ps n =
     eqb (field m n NAME) name && samePairs (pairsOf q (field m n START) (field m n COUNT)) ps
 
--- how many have p, and how many stand before the first of them
+-- how many have p
 unfoldable pub howMany : (ℕ → Bool) → List ℕ → ℕ
 howMany p [] = 0
 howMany p (x ∷ xs) = cond (p x) 1 0 + howMany p xs
-
-unfoldable pub before : (ℕ → Bool) → List ℕ → ℕ
-before p [] = 0
-before p (x ∷ xs) = cond (p x) 0 (suc (before p xs))
 
 -- the entries after the last marker, or all
 unfoldable pub afterMarker : Places → ℕ
@@ -97,7 +93,7 @@ afterMarker l = after (placeOf l MARKER)
 unfoldable pub surplus : (ℕ → Bool) → Places → Found
 surplus p l =
     cond (ltb 2 (howMany p (drop (afterMarker l) (l .held))))
-    (At (afterMarker l + before p (drop (afterMarker l) (l .held))))
+    (firstWith p (drop (afterMarker l) (l .held)) (afterMarker l))
     Nothing
 
 -- the list without that one

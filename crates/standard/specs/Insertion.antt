@@ -1,8 +1,8 @@
 -- 13.2.6.1: the calls 1 (element), 2 (text) and 3 (comment).
 -- Assumes nothing.
-use Prim.Native.Nat.{ℕ, zero, suc, _+_, _-_, _/_, _%_}
+use Prim.Native.Nat.{ℕ, zero, suc, _+_, _/_, _%_}
 use mathlib.Core.Bool.{Bool, true, false, cond, not, _&&_, _||_}
-use mathlib.Core.List.{List, [], _∷_}
+use mathlib.Core.List.{List, []}
 use lib.Dec.{eqb, ltb}
 use Rattle.names.specs.Numbers.{isName}
 use Rattle.names.specs.Space as space
@@ -14,7 +14,7 @@ use Rattle.arena.specs.declared.make.Tag.{Tag}
 use Rattle.places.specs.Places.{pushed}
 use Rattle.state.specs.Full.{Full, Result, refused, done, withStack, withNodes, withPieces, withPairs}
 use Rattle.standard.specs.Html.{current}
-use Rattle.standard.specs.Place.{node, pick, appropriatePlace, attached, textBefore}
+use Rattle.standard.specs.Place.{node, appropriatePlace, attached, textBefore}
 use Rattle.standard.specs.Pairs.{pairsIn, fine, stored}
 use Rattle.standard.specs.declared.Place.{Place}
 use Rattle.standard.specs.declared.Place.the-variants.{End}

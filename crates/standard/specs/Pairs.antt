@@ -1,7 +1,7 @@
 -- The attribute pairs of a call: how they are read from the record, when they are allowed, and where they are stored.
 -- Assumes nothing.
 use Prim.Native.Nat.{ℕ, zero, suc, _+_}
-use mathlib.Core.Bool.{Bool, true, false, not, _&&_}
+use mathlib.Core.Bool.{Bool, true, not, _&&_}
 use mathlib.Core.List.{List, [], _∷_, _++_}
 use Rattle.names.specs.Numbers.{isName}
 use Rattle.names.specs.Sets.{member}

@@ -1,8 +1,7 @@
 -- The calls that touch places and flags alone: 5 and 6 (formatting list), 14 (pop), 15 and 18 (flags), 16 and 17 (template modes).
 -- Assumes nothing.
 use Prim.Native.Nat.{ℕ, _+_, _-_, min}
-use mathlib.Core.Bool.{Bool, true, false, cond, _||_}
-use mathlib.Core.List.{List}
+use mathlib.Core.Bool.{cond, _||_}
 use lib.ListN.{length}
 use lib.Dec.{eqb, ltb}
 use Rattle.places.specs.Places.{Places, pushed, cut, placeOf}

@@ -6,7 +6,6 @@ use lib.ListN.{replicate}
 use Rattle.state.specs.declared.Core.{Core}
 use Rattle.state.specs.declared.Counts.{Counts}
 use Rattle.state.specs.declared.Flags.{Flags}
-use Rattle.state.specs.declared.Stack.{Stack}
 use Rattle.state.specs.declared.State.{State}
 use Rattle.state.specs.declared.Context.{Context}
 use Rattle.state.specs.declared.Context.the-variants.{None}

@@ -1,7 +1,6 @@
 // The pieces of the text nodes.
 ghost use mathlib.Core.Path.{_≡_};
-ghost use mathlib.Core.Logic.{_≢_};
-ghost use Prim.Native.Nat.{ℕ, suc, _≤_, _<_, _+_};
+ghost use Prim.Native.Nat.{ℕ, _≤_, _<_, _+_};
 ghost use lib.ListN.{length, getD};
 ghost use Rattle.lent.specs.Mem.{field};
 ghost use Rattle.theory.specs.Says.{Says};

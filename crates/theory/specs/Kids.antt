@@ -1,11 +1,12 @@
 -- Children as lists: the five links of each node agree with a family of lists, and each change of the links is a change of one or two lists.
-use mathlib.Core.Path.{_≡_, refl, sym, ap, _∙_, subst}
+-- Assumes nothing.
+use mathlib.Core.Path.{_≡_, refl, sym, ap, _∙_}
 use mathlib.Core.Logic.{_≢_, _⊎_, inl, inr, ⊎-map, ⊎-elim}
-use Prim.Native.Nat.{ℕ, zero, suc, _+_, _*_, _≤_, _<_}
+use Prim.Native.Nat.{ℕ, suc, _≤_, _<_}
 use native.Mathlib.Decide.{ℕ-discrete, decLt}
 use native.Mathlib.Nat.{lt-irrefl, le-refl}
 use native.Mathlib.Omega.{arith}
-use mathlib.Core.List.{List, [], _∷_, _++_, append-assoc, append-nil}
+use mathlib.Core.List.{List, [], _∷_, _++_}
 use lib.Seq.{append-snoc}
 use Rattle.theory.specs.Fn.{In}
 

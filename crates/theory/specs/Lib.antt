@@ -2,7 +2,6 @@ pub mod Fn
 pub mod Rank
 pub mod Ord
 pub mod Natural
-pub mod Round
 pub mod Anc
 pub mod Kids
 pub mod Stores

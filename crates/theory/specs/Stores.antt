@@ -1,13 +1,12 @@
 -- From the stores of the code to `Kids`: what an arena function's contract says, and the list that it gives.
-use mathlib.Core.Path.{_≡_, refl, sym, ap, _∙_, subst}
-use mathlib.Core.Logic.{_≢_, _⊎_, inl, inr, ⊎-map, ⊎-elim}
-use Prim.Native.Nat.{ℕ, zero, suc, _+_, _*_, _≤_, _<_}
-use native.Mathlib.Decide.{ℕ-discrete, decLt}
-use native.Mathlib.Nat.{lt-irrefl, le-refl}
+-- Assumes nothing.
+use mathlib.Core.Path.{_≡_, refl, sym, ap, _∙_}
+use mathlib.Core.Logic.{_≢_, inl, inr, ⊎-elim}
+use Prim.Native.Nat.{ℕ, _≤_, _<_}
 use native.Mathlib.Omega.{arith}
-use mathlib.Core.List.{List, [], _∷_, _++_, append-assoc, append-nil}
+use mathlib.Core.List.{List, [], _∷_, _++_, append-nil}
 use Rattle.theory.specs.Fn.{In, Upd, put, put-upd}
-use Rattle.theory.specs.Kids.{Mem, hd, lst, Run, Kids, Splice, Edit, insert, without, run-in, run-part, lst-in, lst-or, hd-or, in-left, in-right}
+use Rattle.theory.specs.Kids.{Mem, hd, lst, Run, Kids, Splice, Edit, insert, without, run-in, run-part, lst-in, lst-or, in-left}
 
 -- `if c != 0 { f[c] = v }`
 pub record Upd0 (f f′ : ℕ → ℕ) (c v : ℕ) : Type 0 where

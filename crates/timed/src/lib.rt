@@ -1,7 +1,5 @@
 // A begin and a run, as the program has them, for a measurement in one process. It stands in a library of its own with one use of the
 // run, so that it is compiled as in the program.
-use calls::begin;
-use calls::run;
 use state::Context;
 use state::State;
 
@@ -18,6 +16,6 @@ pub extern "C" fn timed_run(
     let st = State::empty();
     let b = begin::begin(st, nodes, modes, Context::None);
     let begun = b.state;
-    let r = run::run(begun, nodes, list, modes, pieces, pairs, input);
+    let r = calls::run(begun, nodes, list, modes, pieces, pairs, input);
     r.done
 }

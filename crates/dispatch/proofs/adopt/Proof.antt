@@ -4,11 +4,6 @@ use Rattle.dispatch.proofs.ReadyLaws as ready
 use borrow.Author.Needs.{needs}
 use Rattle.dispatch.proofs.adopt.Statement.{statement}
 use Rattle.dispatch.proofs.adopt.Tie as tie
-use Rattle.dispatch.proofs.adopt.Reads as reads
-use Rattle.dispatch.proofs.adopt.Lts as lts
-use Rattle.adoption.proofs.agency.adoption_agency.Reads as adoption-agency-reads
-use Rattle.dispatch.proofs.apart.Reads as apart-reads
-use Rattle.dispatch.proofs.done_apart.Reads as done-apart-reads
 
 apart-requires : tie.Need-apart-requires
 apart-requires c κs = search needs

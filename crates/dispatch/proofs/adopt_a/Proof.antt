@@ -4,11 +4,6 @@ use Rattle.dispatch.proofs.ReadyLaws as ready
 use borrow.Author.Needs.{needs}
 use Rattle.dispatch.proofs.adopt_a.Statement.{statement}
 use Rattle.dispatch.proofs.adopt_a.Tie as tie
-use Rattle.dispatch.proofs.adopt_a.Reads as reads
-use Rattle.dispatch.proofs.adopt_a.Lts as lts
-use Rattle.adoption.proofs.agency.handle_misnested_a_tags.Reads as handle-misnested-a-tags-reads
-use Rattle.dispatch.proofs.apart.Reads as apart-reads
-use Rattle.dispatch.proofs.done_apart.Reads as done-apart-reads
 
 apart-requires : tie.Need-apart-requires
 apart-requires c κs = search needs

@@ -3,11 +3,6 @@
 use borrow.Author.Needs.{needs}
 use Rattle.dispatch.proofs.create.Statement.{statement}
 use Rattle.dispatch.proofs.create.Tie as tie
-use Rattle.dispatch.proofs.create.Reads as reads
-use Rattle.dispatch.proofs.create.Lts as lts
-use Rattle.dispatch.proofs.apart.Reads as apart-reads
-use Rattle.dispatch.proofs.done_apart.Reads as done-apart-reads
-use Rattle.formatting.proofs.create.create_formatting_element_for.Reads as create-formatting-element-for-reads
 
 apart-requires : tie.Need-apart-requires
 apart-requires c κs = search needs

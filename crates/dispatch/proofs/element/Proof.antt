@@ -3,11 +3,6 @@
 use borrow.Author.Needs.{needs}
 use Rattle.dispatch.proofs.element.Statement.{statement}
 use Rattle.dispatch.proofs.element.Tie as tie
-use Rattle.dispatch.proofs.element.Reads as reads
-use Rattle.dispatch.proofs.element.Lts as lts
-use Rattle.builder.proofs.insertion.element.Reads as element-reads
-use Rattle.dispatch.proofs.apart.Reads as apart-reads
-use Rattle.dispatch.proofs.done_apart.Reads as done-apart-reads
 
 apart-requires : tie.Need-apart-requires
 apart-requires c κs = search needs

@@ -4,16 +4,6 @@ use Rattle.dispatch.proofs.Numbers as number
 use borrow.Author.Needs.{needs}
 use Rattle.dispatch.proofs.low.Statement.{statement}
 use Rattle.dispatch.proofs.low.Tie as tie
-use Rattle.dispatch.proofs.low.Reads as reads
-use Rattle.dispatch.proofs.low.Lts as lts
-use Rattle.builder.proofs.insertion.comment.Reads as comment-reads
-use Rattle.builder.proofs.insertion.text.Reads as text-reads
-use Rattle.small.proofs.clear.Reads as clear-reads
-use Rattle.small.proofs.marker.Reads as marker-reads
-use Rattle.dispatch.proofs.create.Reads as create-reads
-use Rattle.dispatch.proofs.element.Reads as element-reads
-use Rattle.dispatch.proofs.middle.Reads as middle-reads
-use Rattle.formatting.proofs.reconstruct.reconstruct_active_formatting_elements.Reads as reconstruct-active-formatting-elements-reads
 
 element-requires : tie.Need-element-requires
 element-requires c κs = search needs

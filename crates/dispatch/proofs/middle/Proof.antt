@@ -4,14 +4,6 @@ use Rattle.dispatch.proofs.Numbers as number
 use borrow.Author.Needs.{needs}
 use Rattle.dispatch.proofs.middle.Statement.{statement}
 use Rattle.dispatch.proofs.middle.Tie as tie
-use Rattle.dispatch.proofs.middle.Reads as reads
-use Rattle.dispatch.proofs.middle.Lts as lts
-use Rattle.dispatch.proofs.adopt.Reads as adopt-reads
-use Rattle.dispatch.proofs.adopt_a.Reads as adopt-a-reads
-use Rattle.stacks.proofs.close.close_p_element.Reads as close-p-element-reads
-use Rattle.stacks.proofs.close.close_the_cell.Reads as close-the-cell-reads
-use Rattle.stacks.proofs.close.process_end_tag_in_body.Reads as process-end-tag-in-body-reads
-use Rattle.stacks.proofs.implied.generate_implied_end_tags.Reads as generate-implied-end-tags-reads
 
 adopt-requires : tie.Need-adopt-requires
 adopt-requires c κs = search needs

@@ -3,6 +3,7 @@
 use mathlib.Core.Path.{sym}
 use lib.Seq.{length-take-le}
 use borrow.Author.Needs.{needs}
+use Rattle.dozenpurse.proofs.Laws.{input-is, leaflet-is}
 use Rattle.dozenpurse.proofs.leaflet.Statement.{statement}
 use Rattle.dozenpurse.proofs.leaflet.Tie as tie
 
@@ -40,7 +41,8 @@ same-length-5 : tie.Need-same-length-5
 same-length-5 c = search needs
 
 returns : tie.Need-returns
-returns c = search needs
+returns c =
+    leaflet-is _ _ _ _ _ (c .before .before .before .before .before .before .before .before .before .before .before .before .before .before .before .before .before .before .before .before .before .before .before .before .before .before .before .before .before .before .before .before .before .before .pre) _ (c .before .before .before .before .before .before .before .before .before .before .before .before .before .before .before .before .before .before .before .before .before .before .begin .ensures) _ _ _ (input-is _ _ (c .before .before .before .before .before .before .before .before .before .before .before .before .before .before .before .before .before .before .before .before .before .before .before .before .before .before .before .part .ensures)) _ _ _ _ _ _ (c .before .before .before .before .before .before .before .before .before .before .before .run .ensures) (c .cut .ensures)
 
 pub leaflet-spec : {M : Type 1} → statement M
 leaflet-spec =

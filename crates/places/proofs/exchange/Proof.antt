@@ -1,11 +1,8 @@
 -- `places::exchange` meets its contract.
 -- Assumes nothing.
-use Prim.Native.Nat.{ℕ, _≤_, _<_, _-_, _+_}
-use mathlib.Core.Path.{_≡_, refl, ap, sym, _∙_}
+use mathlib.Core.Path.{sym, _∙_}
 use native.Mathlib.Omega.{arith}
-use lib.ListN.{length}
-use Rattle.places.specs.Places.{Places, placesOf, placeOf}
-use Rattle.places.proofs.Laws.{place-lt, renamed-none, renamed-at, after-none, after-at, exchanged-none, exchanged-at}
+use Rattle.places.proofs.Laws.{place-lt, exchanged-none, exchanged-at}
 use borrow.Author.Needs.{needs}
 use Rattle.places.proofs.exchange.Statement.{statement}
 use Rattle.places.proofs.exchange.Tie as tie

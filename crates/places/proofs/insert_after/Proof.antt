@@ -1,11 +1,8 @@
 -- `places::insert_after` meets its contract.
 -- Assumes nothing.
-use Prim.Native.Nat.{ℕ, _≤_, _<_, _-_, _+_}
-use mathlib.Core.Path.{_≡_, refl, ap, sym, _∙_}
+use mathlib.Core.Path.{sym, _∙_}
 use native.Mathlib.Omega.{arith}
-use lib.ListN.{length}
-use Rattle.places.specs.Places.{Places, placesOf, placeOf}
-use Rattle.places.proofs.Laws.{place-lt, renamed-none, renamed-at, after-none, after-at, exchanged-none, exchanged-at}
+use Rattle.places.proofs.Laws.{place-lt, after-none, after-at}
 use borrow.Author.Needs.{needs}
 use Rattle.places.proofs.insert_after.Statement.{statement}
 use Rattle.places.proofs.insert_after.Tie as tie

@@ -1,8 +1,7 @@
 -- `places::leave` meets its contract.
 -- Assumes nothing.
 use borrow.Author.Needs.{needs}
-use Prim.Native.Nat.{ℕ, _≤_, _<_, _-_, _+_}
-use mathlib.Core.Path.{_≡_, refl, ap, sym, _∙_}
+use mathlib.Core.Path.{sym, _∙_}
 use native.Mathlib.Omega.{arith}
 use Rattle.places.proofs.Laws.{place-lt, left-none, left-at}
 use Rattle.places.proofs.leave.Statement.{statement}

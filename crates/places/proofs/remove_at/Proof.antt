@@ -1,13 +1,12 @@
 -- `places::remove_at` meets its contract.
 -- Assumes nothing.
-use Prim.Native.Nat.{ℕ, _≤_, _<_, _-_, _+_}
-use mathlib.Core.Path.{_≡_, refl, ap, sym, _∙_}
+use Prim.Native.Nat.{ℕ, _≤_, _-_, _+_}
+use mathlib.Core.Path.{_≡_, refl, ap, _∙_}
 use mathlib.Core.List.{List}
 use native.Mathlib.Omega.{arith}
-use borrow.Author.Tests.{eq-eqb, ne-eqb}
 use lib.ListN.{length, getD, set}
-use Rattle.places.specs.Places.{Places, placesOf, placeOf, down, never, same}
-use Rattle.places.proofs.Laws.{down-none, down-hit, down-on, place-of, place-lt, swapped-law, shifted, shifted-none, shifted-length, shifted-more, shifted-all, opening, opening-none, opening-length, opening-more, opening-all, cutting, cutting-none, cutting-more, cutting-all}
+use Rattle.places.specs.Places.{placesOf}
+use Rattle.places.proofs.Laws.{shifted, shifted-none, shifted-more, shifted-all}
 use borrow.Author.Needs.{needs}
 use Rattle.places.proofs.remove_at.Statement.{statement}
 use Rattle.places.proofs.remove_at.Tie as tie

@@ -1,7 +1,7 @@
 -- `records::number` meets its contract.
 -- Assumes nothing.
 use native.Mathlib.Omega.{arith}
-use borrow.Author.Tests.{lt-ltb, le-ltb, eq-eqb, ne-eqb}
+use borrow.Author.Tests.{lt-ltb, le-ltb}
 use Rattle.records.specs.Number.{numberAt}
 use borrow.Author.Needs.{needs}
 use Rattle.records.proofs.number.Statement.{statement}

@@ -3,7 +3,7 @@
 use mathlib.Core.Path.{_≡_}
 use mathlib.Core.List.{List}
 use Prim.Native.Nat.{ℕ}
-use Rattle.lent.specs.Mem.{field, putField, link, PARENT, PREV, NEXT, FIRST, LAST}
+use Rattle.lent.specs.Mem.{field, putField, link, PARENT, PREV, NEXT, FIRST}
 use Rattle.arena.specs.Links.{inserted}
 use borrow.Author.Needs.{needs}
 use Rattle.arena.proofs.links.insert_before.Statement.{statement}

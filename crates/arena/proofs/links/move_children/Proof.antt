@@ -1,6 +1,6 @@
 -- `arena::links::move_children` meets its contract.
 -- Assumes nothing.
-use mathlib.Core.Path.{_≡_, _∙_}
+use mathlib.Core.Path.{_≡_}
 use mathlib.Core.List.{List}
 use Prim.Native.Nat.{ℕ}
 use Rattle.lent.specs.Mem.{field, FIRST, LAST}

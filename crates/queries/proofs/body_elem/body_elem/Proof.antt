@@ -2,7 +2,7 @@
 -- Assumes nothing.
 use mathlib.Core.Path.{refl}
 use borrow.Author.Tests.{not-true, not-false}
-use Rattle.calls.proofs.EdgeLaws.{checked-no, checked-yes}
+use Rattle.edge.proofs.Laws.{checked-no, checked-yes}
 use Rattle.queries.proofs.QueryLaws as laws
 use borrow.Author.Needs.{needs}
 use Rattle.queries.proofs.body_elem.body_elem.Statement.{statement}

@@ -1,0 +1,3 @@
+pub mod TagLaws
+pub mod SurplusLaws
+pub mod Corners

@@ -1,0 +1,3 @@
+pub mod Laws
+pub mod ElementLaws
+pub mod PairsLaws
