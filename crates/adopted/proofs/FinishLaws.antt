@@ -7,8 +7,8 @@ use native.Mathlib.Omega.{arith}
 use lib.ListN.{length, getD}
 use Rattle.lent.specs.declared.Node.{Node}
 use Rattle.arena.specs.Links.{appended, detached, moved}
-use Rattle.arena.specs.Make.{copied}
-use Rattle.arena.specs.Room.{fresh}
+use Rattle.makers.specs.Make.{copied}
+use Rattle.lent.specs.Room.{fresh}
 use Rattle.places.specs.Places.{Places, placesOf, placeOf, exchanged, renamed}
 use Rattle.places.specs.declared.Found.the-variants.{At}
 use Rattle.places.proofs.Laws.{at-of}
@@ -21,7 +21,7 @@ use Rattle.standard.specs.Place.{appropriatePlace, attached}
 use Rattle.standard.specs.Adoption.{placedAt, rehung}
 use Rattle.standard.specs.Adoption as def
 use Rattle.small.proofs.Laws.{size-of, all-put}
-use Rattle.arena.proofs.Lowest.{fresh-is}
+use Rattle.lent.proofs.Lowest.{fresh-is}
 use Rattle.adopted.specs.declared.bookmark.Bookmark.{Bookmark}
 use Rattle.adopted.specs.declared.bookmark.Bookmark.the-variants.{Replace, InsertAfter}
 use Rattle.adopted.specs.Bookmark.{Inner, innerAt, inner, started, relisted, finished, adopted}

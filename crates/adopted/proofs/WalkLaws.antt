@@ -7,8 +7,8 @@ use native.Mathlib.Omega.{arith}
 use lib.ListN.{getD}
 use borrow.Author.Tests.{lt-ltb, le-ltb, eq-eqb, ne-eqb}
 use Rattle.arena.specs.Links.{appended, detached}
-use Rattle.arena.specs.Make.{copied}
-use Rattle.arena.specs.Room.{fresh}
+use Rattle.makers.specs.Make.{copied}
+use Rattle.lent.specs.Room.{fresh}
 use Rattle.places.specs.Places.{placesOf, at, without, withoutAny, swapped, placeOf}
 use Rattle.places.specs.declared.Found.{Found}
 use Rattle.places.specs.declared.Found.the-variants.{At, Nothing}
@@ -20,7 +20,7 @@ use Rattle.state.specs.Full.{Full, full, withStack, withList}
 use Rattle.standard.specs.Place.{node}
 use Rattle.standard.specs.Adoption.{leftStack, leftBoth, renewed, renewedIn}
 use Rattle.small.proofs.Laws.{stack-put, all-put, depth-stays, list-stays}
-use Rattle.arena.proofs.Lowest.{fresh-is}
+use Rattle.lent.proofs.Lowest.{fresh-is}
 use Rattle.adopted.specs.declared.bookmark.Bookmark.{Bookmark}
 use Rattle.adopted.specs.declared.bookmark.Bookmark.the-variants.{Replace, InsertAfter}
 use Rattle.adopted.specs.Bookmark.{Inner, innerAt, markOf, renewedAt, turnAt, turned, inner, started}

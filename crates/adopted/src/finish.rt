@@ -12,8 +12,8 @@ ghost use Rattle.adopted.specs.Bookmark.{innerAt, relisted, finished};
 ghost use Rattle.adopted.specs.Firm.{Firm};
 use crate::bookmark::Bookmark;
 use crate::walk::Walk;
-use builder::place;
 use lent::Node;
+use location::place;
 use state::Core;
 
 // 4.14: the place is found before the node leaves its parent.
@@ -36,7 +36,7 @@ fn place_last(h: &[u16], core: Core, nodes: &mut [u8], ancestor: Node, last: Nod
 fn rehang(nodes: &mut [u8], new: Node, fe: Node, block: Node)
     ensures { λ _. ⌜ now (nodes .exit) ≡ rehung (now (nodes .entry)) (new .0) (fe .0) (block .0) ⌝ }
 {
-    arena::make::copy_element(nodes, new, fe);
+    makers::make::copy_element(nodes, new, fe);
     arena::links::move_children(nodes, block, new);
     arena::links::append(nodes, block, new);
 }
@@ -74,7 +74,7 @@ fn finish(
     let last = w.last;
     let mark = w.mark;
     let used = core.counts.nodes;
-    let new = arena::room::next(used);
+    let new = lent::room::next(used);
     place_last(h, core, nodes, Node(ancestor), Node(last));
     rehang(nodes, Node(new), Node(fe), Node(block));
     let depth = places::exchange(h, core.depth, fe, block, new);

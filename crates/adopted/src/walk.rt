@@ -23,7 +23,7 @@ pub struct Walk {
 fn renew(nodes: &mut [u8], new: Node, node: Node, last: Node)
     ensures { λ _. ⌜ now (nodes .exit) ≡ renewed (now (nodes .entry)) (new .0) (node .0) (last .0) ⌝ }
 {
-    arena::make::copy_element(nodes, new, node);
+    makers::make::copy_element(nodes, new, node);
     arena::links::detach(nodes, last);
     arena::links::append(nodes, new, last);
 }
@@ -57,7 +57,7 @@ fn renew_at(
     let last = w.last;
     let mark = w.mark;
     let used = core.counts.nodes;
-    let new = arena::room::next(used);
+    let new = lent::room::next(used);
     renew(nodes, Node(new), Node(h[i]), Node(last));
     places::swap_at(h, core.depth, i, new);
     places::swap_at(list, core.counts.list, j, new);

@@ -11,7 +11,7 @@ use borrow.Author.Tests.{lt-ltb, le-ltb}
 use Rattle.names.specs.Space as space
 use Rattle.names.specs.Tag as tag
 use Rattle.names.specs.Sets.{isIn, Formatting}
-use Rattle.arena.specs.Room.{freeNodes}
+use Rattle.lent.specs.Room.{freeNodes}
 use Rattle.places.specs.Places.{placesOf, cut, placeOf, left}
 use Rattle.places.specs.declared.Found.{Found}
 use Rattle.places.specs.declared.Found.the-variants.{At, Nothing}

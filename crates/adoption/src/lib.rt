@@ -11,8 +11,8 @@ ghost use Rattle.standard.specs.Adoption.{rounds, currentAt, adoption, leaves, 
 ghost use Rattle.standard.specs.Adoption as def;
 ghost use Rattle.adopted.specs.Firm.{Firm};
 ghost use Rattle.rounds.specs.Turns.{turnOf, further};
-use builder::html;
 use lent::Node;
+use location::html;
 use names::Namespace;
 use names::sets;
 use names::tag;
@@ -109,7 +109,7 @@ pub fn adoption_agency(
             core: core,
         };
     }
-    if arena::room::free_nodes(nodes, core.counts.nodes) < ROOM {
+    if lent::room::free_nodes(nodes, core.counts.nodes) < ROOM {
         return Done {
             answer: 4,
             core: core,
@@ -137,7 +137,7 @@ fn handle_entry(h: &mut [u16], core: Core, nodes: &mut [u8], list: &mut [u16], j
     requires { ⌜ (0 < core .depth) × (j < core .counts .list) ⌝ }
     ensures { λ r. ⌜ ((m p q : List ℕ) (x : Context) → result (r .answer) (full (now (h .exit)) (r .core) x (now (nodes .exit)) (now (list .exit)) m p q) ≡ misnestedAt (At j) (full (now (h .entry)) core x (now (nodes .entry)) (now (list .entry)) m p q)) ⌝ }
 {
-    if arena::room::free_nodes(nodes, core.counts.nodes) < ROOM {
+    if lent::room::free_nodes(nodes, core.counts.nodes) < ROOM {
         return Done {
             answer: 4,
             core: core,

@@ -2,16 +2,12 @@
 -- Assumes nothing.
 use Prim.Native.Nat.{ℕ, zero, suc, _-_, _<_, _≤_}
 use mathlib.Core.Path.{_≡_, refl, _∙_}
-use mathlib.Core.Bool.{true, false}
 use mathlib.Core.List.{List}
 use borrow.Author.Tests.{eq-eqb, ne-eqb}
 use native.Mathlib.Omega.{arith}
 use native.Mathlib.Numerals.{sub-one}
-use Rattle.lent.specs.Mem.{field, putField, PARENT, PREV, NEXT, FIRST, LAST, CONTENTS}
+use Rattle.lent.specs.Mem.{field, putField, PARENT, PREV, NEXT, FIRST, LAST}
 use Rattle.arena.specs.Links.{detached, unlinked, reparented, moved, spliced}
-use Rattle.arena.specs.Room.{fresh}
-use Rattle.arena.specs.Make.{isTemplate, nodesOf, plain, bare, tied, element}
-use Rattle.arena.specs.declared.make.Tag.{Tag}
 
 pub detached-none : (m : List ℕ) (n : ℕ) {x : ℕ} → x ≡ field m n PARENT → x ≡ 0 → detached m n ≡ m
 unfolding detached
@@ -46,20 +42,3 @@ pub reparented-step : (m : List ℕ) (n p k : ℕ) → 0 < k → (n ≡ 0 → �
 unfolding reparented
 reparented-step m n p zero lt h = absurd (omega arith)
 reparented-step m n p (suc k) lt h = rw (ne-eqb n 0 h, sub-one)
-
-pub element-plain : (m : List ℕ) (n : ℕ) (t : Tag) → isTemplate t ≡ false → element m n t ≡ plain m n t
-unfolding element
-element-plain m n t h = rw h
-
-pub element-template : (m : List ℕ) (n : ℕ) (t : Tag) → isTemplate t ≡ true
-    → element m n t ≡ tied (bare (plain m n t) (fresh n) CONTENTS) n (fresh n)
-unfolding element
-element-template m n t h = rw h
-
-pub nodes-one : (t : Tag) → isTemplate t ≡ false → nodesOf t ≡ 1
-unfolding nodesOf
-nodes-one t h = rw h
-
-pub nodes-two : (t : Tag) → isTemplate t ≡ true → nodesOf t ≡ 2
-unfolding nodesOf
-nodes-two t h = rw h

@@ -1,4 +1,2 @@
-// The tree in lent memory: nodes are made, linked, unlinked and moved. Every function is total: none asks anything of the memory.
+// The tree in lent memory: nodes are linked, unlinked and moved. Every function is total: none asks anything of the memory.
 pub mod links;
-pub mod make;
-pub mod room;

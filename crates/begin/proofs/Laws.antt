@@ -11,7 +11,7 @@ use borrow.Author.Tests.{lt-ltb, le-ltb, eq-eqb, ne-eqb}
 use Rattle.names.specs.Numbers.{isName}
 use Rattle.names.specs.Space as space
 use Rattle.names.specs.Tag as tag
-use Rattle.arena.specs.Room.{freeNodes}
+use Rattle.lent.specs.Room.{freeNodes}
 use Rattle.state.specs.declared.Context.{Context}
 use Rattle.state.specs.declared.Context.the-variants.{None, Element}
 use Rattle.state.specs.declared.State.{State}

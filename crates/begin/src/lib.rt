@@ -2,8 +2,8 @@
 ghost use mathlib.Core.Path.{_≡_};
 ghost use lib.ListN.{set};
 ghost use Rattle.standard.specs.Begin.{badMark, badContext, isTemplateContext, firstModes, beginAnswer, beginNodes, beginModes, beginState, begun, beginOf};
-use arena::make::Tag;
 use lent::Node;
+use makers::make::Tag;
 use names::Namespace;
 use names::tag;
 use state::Context;
@@ -81,7 +81,7 @@ fn answer(nodes: &[u8], modes: &[u16], context: Context) -> usize
     if bad_context(context) {
         return 2;
     }
-    if arena::room::free_nodes(nodes, 0) < 2 {
+    if lent::room::free_nodes(nodes, 0) < 2 {
         return 4;
     }
     if lent::least(modes.len(), Counts::MODES) < first_modes(context) {
@@ -94,7 +94,7 @@ fn answer(nodes: &[u8], modes: &[u16], context: Context) -> usize
 fn begin_nodes(nodes: &mut [u8])
     ensures { λ _. ⌜ now (nodes .exit) ≡ beginNodes (now (nodes .entry)) ⌝ }
 {
-    arena::make::make_document(nodes, Node(Node::DOCUMENT));
+    makers::make::make_document(nodes, Node(Node::DOCUMENT));
     let t = Tag {
         space: Namespace::HTML,
         name: tag::HTML,
@@ -102,7 +102,7 @@ fn begin_nodes(nodes: &mut [u8])
         start: 0,
         count: 0,
     };
-    arena::make::make_element(nodes, Node(Node::ROOT), t);
+    makers::make::make_element(nodes, Node(Node::ROOT), t);
     arena::links::append(nodes, Node(Node::DOCUMENT), Node(Node::ROOT));
 }
 

@@ -10,8 +10,8 @@ use Rattle.records.specs.Written.{encodedBy, encoded, encodedAll}
 use Rattle.records.specs.Number.{second, numberAt}
 use Rattle.records.specs.Record.{skipAt, countOf, pairsOf as pairCount, numberIf, pairsAt, argumentsAt, itemAt}
 use Rattle.arena.specs.Links.{appended, unlinked, detached, inserted, reparented, spliced, moved}
-use Rattle.arena.specs.Make.{bareLinks, bareRest, bare, tagged, tagOf, isTemplate, plain, nodesOf, element, copied, document, piece, text, pieceAfter}
-use Rattle.arena.specs.Room.{freeNodes, freePieces, freePairs}
+use Rattle.makers.specs.Make.{bareLinks, bareRest, bare, tagged, tagOf, isTemplate, plain, nodesOf, element, copied, document, piece, text, pieceAfter}
+use Rattle.lent.specs.Room.{freeNodes, freePieces, freePairs}
 use Rattle.places.specs.Places.{placesOf, at, without, pushed, within, swapped, cut, down, firstWith, lastWith, placeOf, afterAt, exchangedAt, exchanged, leftAt}
 use Rattle.state.specs.Fields.{coreOf}
 use Rattle.state.specs.Full.{withStack, withList, withNodes, withPieces, withPairs, withFlags}

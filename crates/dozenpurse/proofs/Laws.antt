@@ -8,7 +8,7 @@ use native.Mathlib.Omega.{arith}
 use lib.ListN.{length, take}
 use borrow.Author.Tests.{le-ltb}
 use Rattle.lent.specs.Mem.{slots}
-use Rattle.arena.specs.Room.{freeNodes}
+use Rattle.lent.specs.Room.{freeNodes}
 use Rattle.theory.specs.Says.{says-yes}
 use Rattle.sound.specs.State.{SoundFull}
 use Rattle.state.specs.declared.State.{State}

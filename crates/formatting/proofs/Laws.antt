@@ -12,9 +12,9 @@ use borrow.Author.Tests.{lt-ltb, le-ltb, le-leb, lt-leb, not-false, ltb-true}
 use Rattle.names.specs.Space as space
 use Rattle.names.specs.Sets.{isIn, Formatting}
 use Rattle.names.proofs.Members.{Plain, formatting-plain}
-use Rattle.arena.specs.Room.{freeNodes, freePairs, fresh}
-use Rattle.arena.specs.Make.{nodesOf, isTemplate}
-use Rattle.arena.specs.declared.make.Tag.{Tag}
+use Rattle.lent.specs.Room.{freeNodes, freePairs, fresh}
+use Rattle.makers.specs.Make.{nodesOf, isTemplate}
+use Rattle.makers.specs.declared.make.Tag.{Tag}
 use Rattle.places.specs.Places.{Places, placesOf, pushed, without, leftAt}
 use Rattle.places.specs.declared.Found.{Found}
 use Rattle.places.specs.declared.Found.the-variants.{At, Nothing}
@@ -27,7 +27,7 @@ use Rattle.standard.specs.Pairs.{pairsIn, fine}
 use Rattle.standard.specs.Insertion.{badTag, badPairs, newTag, elementIn, pushedIf, elementDone, elementRoom, inserted-element}
 use Rattle.standard.specs.Formatting.{sameTag, surplus, spared, listed, createdRoom, createdFor, badFormatting, created}
 use Rattle.small.proofs.Laws.{size-of, room-of, list-put}
-use Rattle.arena.proofs.Lowest.{fresh-is, nodes-few}
+use Rattle.lent.proofs.Lowest.{fresh-is, nodes-few}
 use Rattle.insertion.proofs.ElementLaws.{many-pairs, few-pairs}
 use Rattle.entries.proofs.SurplusLaws.{surplus-lt}
 

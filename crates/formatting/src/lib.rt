@@ -8,7 +8,7 @@ ghost use lib.ListN.{length};
 ghost use Rattle.places.specs.Places.{placesOf, leftAt};
 ghost use Rattle.places.specs.declared.Found.{Found};
 ghost use Rattle.places.specs.declared.Found.the-variants.{At};
-ghost use Rattle.arena.specs.Room.{freeNodes};
+ghost use Rattle.lent.specs.Room.{freeNodes};
 ghost use Rattle.state.specs.declared.Context.{Context};
 ghost use Rattle.state.specs.Full.{full, result};
 ghost use Rattle.standard.specs.Small.{room};
@@ -111,7 +111,7 @@ fn create_listed(
     ensures { λ r. ⌜ ((m w : List ℕ) (x : Context) → result (r .answer) (full (now (h .exit)) (r .core) x (now (nodes .exit)) (now (list .exit)) m w (now (pairs .exit))) ≡ createdFor (now (input .entry)) (full (now (h .entry)) core x (now (nodes .entry)) (now (list .entry)) m w (now (pairs .entry))) (t .name) (t .from) (t .count)) ⌝ }
 {
     let size = core.counts.list;
-    let n = arena::room::next(core.counts.nodes);
+    let n = lent::room::next(core.counts.nodes);
     let extra = surplus::surplus(nodes, pairs, input, t, list, size);
     if is_full(list, size, extra) {
         return Done {
@@ -143,7 +143,7 @@ fn create_room(
     requires { ⌜ (core .counts .list ≤ length (now list)) × (core .counts .pairs ≤ 4096) × (badFormatting (now input) (t .name) (t .from) (t .count) ≡ false) ⌝ }
     ensures { λ r. ⌜ ((m w : List ℕ) (x : Context) → result (r .answer) (full (now (h .exit)) (r .core) x (now (nodes .exit)) (now (list .exit)) m w (now (pairs .exit))) ≡ createdFor (now (input .entry)) (full (now (h .entry)) core x (now (nodes .entry)) (now (list .entry)) m w (now (pairs .entry))) (t .name) (t .from) (t .count)) ⌝ }
 {
-    if arena::room::free_nodes(nodes, core.counts.nodes) == 0 {
+    if lent::room::free_nodes(nodes, core.counts.nodes) == 0 {
         return Done {
             answer: 4,
             core: core,

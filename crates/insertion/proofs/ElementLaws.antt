@@ -13,9 +13,9 @@ use Rattle.names.specs.Space as space
 use Rattle.names.specs.Tag as tag
 use Rattle.places.specs.Places.{placesOf, pushed}
 use Rattle.lent.specs.Mem.{slots}
-use Rattle.arena.specs.Room.{freeNodes, freePairs, fresh}
-use Rattle.arena.specs.Make.{element, nodesOf, isTemplate}
-use Rattle.arena.specs.declared.make.Tag.{Tag}
+use Rattle.lent.specs.Room.{freeNodes, freePairs, fresh}
+use Rattle.makers.specs.Make.{element, nodesOf, isTemplate}
+use Rattle.makers.specs.declared.make.Tag.{Tag}
 use Rattle.state.specs.declared.Core.{Core}
 use Rattle.state.specs.declared.Context.{Context}
 use Rattle.state.specs.Fields.{setDepth, setCounts, setNodes, setPairs}
@@ -25,7 +25,7 @@ use Rattle.standard.specs.Pairs.{pairsIn, fine, stored}
 use Rattle.standard.specs.Insertion.{usualPlace, pushes, isMarkable, badTag, badPairs, newTag, elementIn, pushedIf, elementDone, elementRoom, inserted-element}
 use Rattle.standard.specs.declared.Place.{Place}
 use Rattle.small.proofs.Laws.{stack-put}
-use Rattle.arena.proofs.Lowest.{fresh-is}
+use Rattle.lent.proofs.Lowest.{fresh-is}
 
 -- ---- answer 2
 

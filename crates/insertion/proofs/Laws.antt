@@ -16,9 +16,9 @@ use Rattle.standard.specs.declared.Place.{Place}
 use Rattle.standard.specs.declared.Place.the-variants.{End}
 use Rattle.lent.specs.declared.Node.{Node}
 use Rattle.lent.specs.Mem.{field, putField, END}
-use Rattle.arena.proofs.Lowest.{fresh-is, nodes-few, pieces-few}
-use Rattle.arena.specs.Room.{freeNodes, freePieces, fresh}
-use Rattle.arena.specs.Make.{comment, text, piece, pieceAfter}
+use Rattle.lent.proofs.Lowest.{fresh-is, nodes-few, pieces-few}
+use Rattle.lent.specs.Room.{freeNodes, freePieces, fresh}
+use Rattle.makers.specs.Make.{comment, text, piece, pieceAfter}
 
 -- ---- text
 

@@ -13,7 +13,7 @@ use lib.Dec.{eqb}
 use borrow.Author.Tests.{eq-eqb, ne-eqb}
 use Rattle.names.specs.Numbers.{isName}
 use Rattle.names.specs.Sets.{member}
-use Rattle.arena.specs.Make.{pair}
+use Rattle.makers.specs.Make.{pair}
 use Rattle.records.specs.Pair.{nameAt, textAt, pairNext}
 use Rattle.standard.specs.Pairs.{pairsIn, fine, stored}
 

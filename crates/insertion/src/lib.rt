@@ -13,9 +13,9 @@ ghost use Rattle.standard.specs.Insertion as def;
 
 pub mod pairs;
 
-use arena::make::Tag;
-use builder::place;
 use lent::Node;
+use location::place;
+use makers::make::Tag;
 use names::Namespace;
 use names::tag;
 use standard::Place;
@@ -38,14 +38,14 @@ fn join_text(core: Core, nodes: &mut [u8], pieces: &mut [u8], n: Node, number: u
     ensures { λ r. ⌜ ((s l m q : List ℕ) (x : Context) → result (r .answer) (full s (r .core) x (now (nodes .exit)) l m (now (pieces .exit)) q) ≡ joinedText (full s core x (now (nodes .entry)) l m (now (pieces .entry)) q) (n .0) number) ⌝ }
 {
     let used = core.counts.pieces;
-    if arena::room::free_pieces(pieces, used) == 0 {
+    if lent::room::free_pieces(pieces, used) == 0 {
         return Done {
             answer: 7,
             core: core,
         };
     }
-    let i = arena::room::next(used);
-    arena::make::add_piece(nodes, pieces, n, i, number);
+    let i = lent::room::next(used);
+    makers::make::add_piece(nodes, pieces, n, i, number);
     Done {
         answer: 0,
         core: core.with_pieces(used + 1),
@@ -57,22 +57,22 @@ fn new_text(core: Core, nodes: &mut [u8], pieces: &mut [u8], p: Place, number: u
     ensures { λ r. ⌜ ((s l m q : List ℕ) (x : Context) → result (r .answer) (full s (r .core) x (now (nodes .exit)) l m (now (pieces .exit)) q) ≡ newText (full s core x (now (nodes .entry)) l m (now (pieces .entry)) q) p number) ⌝ }
 {
     let used = core.counts.nodes;
-    if arena::room::free_nodes(nodes, used) == 0 {
+    if lent::room::free_nodes(nodes, used) == 0 {
         return Done {
             answer: 4,
             core: core,
         };
     }
     let size = core.counts.pieces;
-    if arena::room::free_pieces(pieces, size) == 0 {
+    if lent::room::free_pieces(pieces, size) == 0 {
         return Done {
             answer: 7,
             core: core,
         };
     }
-    let n = arena::room::next(used);
-    let i = arena::room::next(size);
-    arena::make::make_text(nodes, pieces, Node(n), i, number);
+    let n = lent::room::next(used);
+    let i = lent::room::next(size);
+    makers::make::make_text(nodes, pieces, Node(n), i, number);
     place::attach(nodes, p, Node(n));
     Done {
         answer: 0,
@@ -98,14 +98,14 @@ fn comment_at(core: Core, nodes: &mut [u8], p: Place, number: u16) -> Done
     ensures { λ r. ⌜ ((s l m w q : List ℕ) (x : Context) → result (r .answer) (full s (r .core) x (now (nodes .exit)) l m w q) ≡ commentAt (full s core x (now (nodes .entry)) l m w q) p number) ⌝ }
 {
     let used = core.counts.nodes;
-    if arena::room::free_nodes(nodes, used) == 0 {
+    if lent::room::free_nodes(nodes, used) == 0 {
         return Done {
             answer: 4,
             core: core,
         };
     }
-    let n = arena::room::next(used);
-    arena::make::make_comment(nodes, Node(n), number);
+    let n = lent::room::next(used);
+    makers::make::make_comment(nodes, Node(n), number);
     place::attach(nodes, p, Node(n));
     Done {
         answer: 0,
@@ -184,8 +184,8 @@ fn element_in(
     let used = core.counts.nodes;
     let stored = core.counts.pairs;
     let p = usual_place(nodes, h, core);
-    let n = arena::room::next(used);
-    arena::make::make_element(nodes, Node(n), t);
+    let n = lent::room::next(used);
+    makers::make::make_element(nodes, Node(n), t);
     place::attach(nodes, p, Node(n));
     let count = t.count as usize;
     pairs::store(pairs, stored, input, from, count);
@@ -230,7 +230,7 @@ fn element_room(
     ensures { λ r. ⌜ ((l m w : List ℕ) (x : Context) → result (r .answer) (full (now (h .exit)) (r .core) x (now (nodes .exit)) l m w (now (pairs .exit))) ≡ elementRoom (full (now (h .entry)) core x (now (nodes .entry)) l m w (now (pairs .entry))) t (pairsIn (now (input .entry)) from (t .count)) push) ⌝ }
 {
     let used = core.counts.nodes;
-    if arena::room::free_nodes(nodes, used) < t.nodes() {
+    if lent::room::free_nodes(nodes, used) < t.nodes() {
         return Done {
             answer: 4,
             core: core,
@@ -243,7 +243,7 @@ fn element_room(
         };
     }
     let count = t.count as usize;
-    if arena::room::free_pairs(pairs, core.counts.pairs) < count {
+    if lent::room::free_pairs(pairs, core.counts.pairs) < count {
         return Done {
             answer: 8,
             core: core,
@@ -252,7 +252,7 @@ fn element_room(
     let c = element_in(h, core, nodes, pairs, input, t, from);
     Done {
         answer: 0,
-        core: push_if(h, c, push, arena::room::next(used)),
+        core: push_if(h, c, push, lent::room::next(used)),
     }
 }
 

@@ -54,7 +54,7 @@ pub fn store(pairs: &mut [u8], used: usize, input: &[u8], from: usize, count: us
     let mut i: usize = 0;
     while i < count {
         let p = records::pair_at(input, at);
-        arena::make::make_pair(pairs, (used + i) as u16, p.name, p.text);
+        makers::make::make_pair(pairs, (used + i) as u16, p.name, p.text);
         at = p.next;
         i += 1;
     }

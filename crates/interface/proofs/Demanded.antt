@@ -10,7 +10,7 @@ use native.Mathlib.Decide.{ℕ-discrete}
 use lib.Dec.{ltb}
 use lib.ListN.{length}
 use Rattle.theory.specs.Says.{Says}
-use Rattle.arena.specs.Room.{freeNodes}
+use Rattle.lent.specs.Room.{freeNodes}
 use Rattle.state.specs.declared.Context.{Context}
 use Rattle.state.specs.declared.State.{State}
 use Rattle.state.specs.Full.{Full}

@@ -8,7 +8,7 @@ use mathlib.Core.List.{List}
 use lib.Dec.{ltb}
 use lib.ListN.{length}
 use Rattle.theory.specs.Says.{Says}
-use Rattle.arena.specs.Room.{freeNodes}
+use Rattle.lent.specs.Room.{freeNodes}
 use Rattle.state.specs.declared.Context.{Context}
 use Rattle.state.specs.declared.State.{State}
 use Rattle.state.specs.Full.{Full}

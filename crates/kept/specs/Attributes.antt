@@ -15,7 +15,7 @@ use Rattle.names.specs.Numbers.{isName}
 use Rattle.names.specs.Sets.{member}
 use Rattle.lent.specs.Mem.{PAIRS, slots}
 use Rattle.lent.proofs.Kit.{reads, length-store}
-use Rattle.arena.specs.Make.{pair}
+use Rattle.makers.specs.Make.{pair}
 use Rattle.records.specs.Pair.{pairNext}
 use Rattle.nodes.specs.Nodes.{nameOf, Distinct}
 use Rattle.state.specs.declared.Context.{Context}

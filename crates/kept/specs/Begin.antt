@@ -19,11 +19,11 @@ use Rattle.theory.specs.Ord.{Ord, born, push}
 use Rattle.theory.specs.Natural.{Natural, ord→natural}
 use Rattle.lent.specs.Mem.{NODES, slots, field, up, KIND, PARENT, TIE, SPACE, NAME, MARK, START, COUNT, PIECE, END, DOCUMENT, ELEMENT}
 use Rattle.arena.specs.Links.{appended}
-use Rattle.arena.specs.Make.{document, plain, isTemplate}
-use Rattle.arena.specs.Room.{freeNodes}
-use Rattle.arena.proofs.Laws.{element-plain}
+use Rattle.makers.specs.Make.{document, plain, isTemplate}
+use Rattle.lent.specs.Room.{freeNodes}
+use Rattle.makers.proofs.Laws.{element-plain}
 use Rattle.arena.proofs.Lengths.{slots-same, length-appended}
-use Rattle.arena.proofs.Made.{Made, Fields, noTag, document-made, document-fields, plain-made, plain-fields, made-children}
+use Rattle.makers.proofs.Made.{Made, Fields, noTag, document-made, document-fields, plain-made, plain-fields, made-children}
 use Rattle.arena.proofs.Children.{Forest, appended-parents, appended-children}
 use Rattle.arena.proofs.Others.{appended-field}
 use Rattle.arena.proofs.Ancestors.{kind-free, up-parent, up-same, appended-up}

@@ -13,9 +13,9 @@ use Rattle.names.specs.Space as space
 use Rattle.names.specs.Tag as tag
 use Rattle.names.specs.Sets.{isIn, Formatting}
 use Rattle.lent.specs.Mem.{NODES, slots, field, SPACE, NAME, ELEMENT}
-use Rattle.arena.specs.Make.{isTemplate, plain, tagOf}
-use Rattle.arena.specs.declared.make.Tag.{Tag}
-use Rattle.arena.proofs.Made.{Made, Fields, plain-made, plain-fields}
+use Rattle.makers.specs.Make.{isTemplate, plain, tagOf}
+use Rattle.makers.specs.declared.make.Tag.{Tag}
+use Rattle.makers.proofs.Made.{Made, Fields, plain-made, plain-fields}
 use Rattle.nodes.specs.Nodes.{Kind}
 use Rattle.state.specs.declared.Context.{Context}
 use Rattle.sound.specs.Sound.{Sound, MARKER}

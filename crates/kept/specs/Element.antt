@@ -15,10 +15,10 @@ use Rattle.names.specs.Space as space
 use Rattle.names.specs.Tag as tag
 use Rattle.theory.specs.Natural.{Natural}
 use Rattle.lent.specs.Mem.{NODES, PAIRS, slots, field, up, KIND, ELEMENT}
-use Rattle.arena.specs.Room.{freeNodes, freePairs}
-use Rattle.arena.specs.Make.{isTemplate, nodesOf}
-use Rattle.arena.specs.declared.make.Tag.{Tag}
-use Rattle.arena.proofs.Laws.{element-plain, element-template, nodes-one, nodes-two}
+use Rattle.lent.specs.Room.{freeNodes, freePairs}
+use Rattle.makers.specs.Make.{isTemplate, nodesOf}
+use Rattle.makers.specs.declared.make.Tag.{Tag}
+use Rattle.makers.proofs.Laws.{element-plain, element-template, nodes-one, nodes-two}
 use Rattle.arena.proofs.Ancestors.{kind-free}
 use Rattle.nodes.specs.Nodes as nodes
 use Rattle.state.specs.Full.{Full, withNodes, withPairs}

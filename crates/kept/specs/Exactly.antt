@@ -13,8 +13,8 @@ use borrow.Author.Tests.{eq-eqb, ne-eqb, lt-ltb, le-ltb}
 use Rattle.names.specs.Tag as tag
 use Rattle.names.specs.Space as space
 use Rattle.names.specs.Sets.{ButtonScope, TableScope}
-use Rattle.arena.specs.Room.{freeNodes}
-use Rattle.arena.specs.Make.{nodesOf}
+use Rattle.lent.specs.Room.{freeNodes}
+use Rattle.makers.specs.Make.{nodesOf}
 use Rattle.places.specs.Places.{pushed, cut, placeOf}
 use Rattle.places.specs.declared.Found.{Found}
 use Rattle.places.specs.declared.Found.the-variants.{At, Nothing}

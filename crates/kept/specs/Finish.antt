@@ -18,8 +18,8 @@ use Rattle.theory.specs.Fn.{at}
 use Rattle.theory.specs.Ord.{Wrap}
 use Rattle.lent.specs.Mem.{NODES, slots, field, up, KIND, TIE, SPACE, NAME, ELEMENT}
 use Rattle.arena.proofs.Lengths.{slots-same}
-use Rattle.arena.specs.Make.{copied, tagOf}
-use Rattle.arena.proofs.Made.{Fields}
+use Rattle.makers.specs.Make.{copied, tagOf}
+use Rattle.makers.proofs.Made.{Fields}
 use Rattle.arena.proofs.Others.{NoLink}
 use Rattle.arena.proofs.Ancestors.{kind-free}
 use Rattle.nodes.specs.Nodes.{Template}

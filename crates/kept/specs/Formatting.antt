@@ -15,11 +15,11 @@ use Rattle.theory.specs.Fn.{at}
 use Rattle.names.specs.Space as space
 use Rattle.names.specs.Sets.{isIn, Formatting}
 use Rattle.lent.specs.Mem.{NODES, slots, KIND, SPACE, NAME}
-use Rattle.arena.specs.Room.{freeNodes, freePairs}
-use Rattle.arena.specs.Make.{isTemplate}
-use Rattle.arena.specs.declared.make.Tag.{Tag}
-use Rattle.arena.proofs.Laws.{element-plain, nodes-one}
-use Rattle.arena.proofs.Made.{plain-fields}
+use Rattle.lent.specs.Room.{freeNodes, freePairs}
+use Rattle.makers.specs.Make.{isTemplate}
+use Rattle.makers.specs.declared.make.Tag.{Tag}
+use Rattle.makers.proofs.Laws.{element-plain, nodes-one}
+use Rattle.makers.proofs.Made.{plain-fields}
 use Rattle.arena.proofs.Ancestors.{kind-free}
 use Rattle.nodes.specs.Nodes as nodes
 use Rattle.places.specs.Places.{Places, Whole, pushed, leftAt}

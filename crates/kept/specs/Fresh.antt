@@ -6,8 +6,8 @@ use mathlib.Core.List.{List}
 use native.Mathlib.Omega.{arith}
 use native.Mathlib.Decide.{ℕ-discrete}
 use Rattle.lent.specs.Mem.{field, KIND, PARENT, FIRST, LAST, TIE, SPACE, NAME, MARK, START, COUNT, PIECE, END, ELEMENT, TEXT, COMMENT, CONTENTS}
-use Rattle.arena.proofs.Made.{Made, Fields, noTag, numberTag}
-use Rattle.arena.specs.declared.make.Tag as made
+use Rattle.makers.proofs.Made.{Made, Fields, noTag, numberTag}
+use Rattle.makers.specs.declared.make.Tag as made
 use Rattle.nodes.specs.Nodes as nodes
 use Rattle.nodes.specs.Nodes.{SPARE, Clear, Distinct, Ties, Kind}
 

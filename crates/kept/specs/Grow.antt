@@ -13,7 +13,7 @@ use Rattle.theory.specs.Fn.{Upd}
 use Rattle.theory.specs.Ord.{born, push}
 use Rattle.theory.specs.Natural.{Natural, natural→ord, ord→natural}
 use Rattle.lent.specs.Mem.{NODES, slots, field, up, KIND, PARENT, FIRST, LAST, TIE, PIECE, END, DOCUMENT, ELEMENT, CONTENTS}
-use Rattle.arena.proofs.Made.{Made, made-children}
+use Rattle.makers.proofs.Made.{Made, made-children}
 use Rattle.arena.proofs.Ancestors.{up-parent, up-same}
 use Rattle.nodes.specs.Nodes.{Kind}
 use Rattle.texts.specs.Words.{Words}

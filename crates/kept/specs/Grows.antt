@@ -10,9 +10,9 @@ use lib.Dec.{eqb, ltb}
 use Rattle.names.specs.Tag as tag
 use Rattle.names.specs.Space as space
 use Rattle.names.specs.Sets.{isIn, Formatting, DefaultScope, ButtonScope, TableScope}
-use Rattle.arena.specs.Make.{nodesOf}
-use Rattle.arena.specs.Room.{freeNodes, freePieces, freePairs}
-use Rattle.arena.specs.declared.make.Tag.{Tag}
+use Rattle.makers.specs.Make.{nodesOf}
+use Rattle.lent.specs.Room.{freeNodes, freePieces, freePairs}
+use Rattle.makers.specs.declared.make.Tag.{Tag}
 use Rattle.places.specs.Places.{at, same, placeOf}
 use Rattle.places.specs.declared.Found.{Found}
 use Rattle.places.specs.declared.Found.the-variants.{At, Nothing}

@@ -7,9 +7,9 @@ use native.Mathlib.Numerals.{add-one}
 use lib.Dec.{eqb, ltb}
 use borrow.Author.Tests.{eqb-false}
 use Rattle.lent.specs.Mem.{NODES, PIECES, field, KIND, TEXT}
-use Rattle.arena.specs.Room.{freeNodes, freePieces}
-use Rattle.arena.specs.Make.{comment, text}
-use Rattle.arena.proofs.Made.{comment-made, comment-fields, text-made, text-fields}
+use Rattle.lent.specs.Room.{freeNodes, freePieces}
+use Rattle.makers.specs.Make.{comment, text}
+use Rattle.makers.proofs.Made.{comment-made, comment-fields, text-made, text-fields}
 use Rattle.state.specs.Full.{Full}
 use Rattle.sound.specs.State.{SoundFull}
 use Rattle.standard.specs.Place.{textBefore}

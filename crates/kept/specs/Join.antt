@@ -15,7 +15,7 @@ use Rattle.theory.specs.Stores.{find}
 use Rattle.lent.specs.Mem.{NODES, PIECES, slots, field, putField, up, KIND, PARENT, PREV, FIRST, LAST, TIE, END, TEXT}
 use Rattle.lent.specs.Tree as tree
 use Rattle.lent.proofs.Kit.{reads, length-store}
-use Rattle.arena.specs.Make.{piece, pieceAfter}
+use Rattle.makers.specs.Make.{piece, pieceAfter}
 use Rattle.arena.proofs.Ancestors.{up-same}
 use Rattle.state.specs.declared.Context.{Context}
 use Rattle.sound.specs.Sound.{Sound}

@@ -16,13 +16,13 @@ use Rattle.names.specs.Space as space
 use Rattle.names.specs.Sets.{isIn, Formatting}
 use Rattle.lent.specs.Mem.{NODES, PIECES, slots, inside, field, load, KIND, TIE, SPACE, NAME, START, COUNT, PIECE, END, ELEMENT, TEXT, COMMENT, CONTENTS}
 use Rattle.lent.proofs.Kit.{reads}
-use Rattle.arena.specs.Room.{freeNodes, freePieces, freePairs}
-use Rattle.arena.specs.Make.{isTemplate, nodesOf, piece, pieceAfter}
-use Rattle.arena.specs.declared.make.Tag.{Tag}
-use Rattle.arena.proofs.Laws.{element-plain, element-template, nodes-one, nodes-two}
+use Rattle.lent.specs.Room.{freeNodes, freePieces, freePairs}
+use Rattle.makers.specs.Make.{isTemplate, nodesOf, piece, pieceAfter}
+use Rattle.makers.specs.declared.make.Tag.{Tag}
+use Rattle.makers.proofs.Laws.{element-plain, element-template, nodes-one, nodes-two}
 use Rattle.arena.proofs.Ancestors.{kind-free, tie-free}
-use Rattle.arena.proofs.Pieces.{piece-text}
-use Rattle.arena.proofs.Made.{comment-fields, text-fields}
+use Rattle.makers.proofs.Pieces.{piece-text}
+use Rattle.makers.proofs.Made.{comment-fields, text-fields}
 use Rattle.places.specs.Places.{Places, swapped}
 use Rattle.state.specs.Full.{Full, Result, refused, withStack, withList, withNodes, withPieces, withPairs}
 use Rattle.standard.specs.declared.Place.{Place}

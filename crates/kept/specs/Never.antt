@@ -11,7 +11,7 @@ use native.Mathlib.Omega.{arith}
 use lib.ListN.{length}
 use lib.Dec.{eqb, ltb}
 use borrow.Author.Tests.{ltb-false, eqb-true, eqb-false, ne-eqb}
-use Rattle.arena.specs.Room.{freeNodes}
+use Rattle.lent.specs.Room.{freeNodes}
 use Rattle.records.specs.declared.Record.{Record}
 use Rattle.records.specs.declared.Item.{Item}
 use Rattle.records.specs.declared.Item.the-variants as is

@@ -15,9 +15,9 @@ use Rattle.theory.specs.Count.{once-join, within-join}
 use Rattle.theory.specs.Path.{Path, path-same}
 use Rattle.lent.specs.Mem.{NODES, PIECES, inside, field, putField, KIND, PIECE, END, TEXT}
 use Rattle.lent.proofs.Kit.{reads}
-use Rattle.arena.specs.Make.{piece, pieceAfter, text}
-use Rattle.arena.proofs.Made.{Made, text-made, text-fields}
-use Rattle.arena.proofs.Pieces.{Pieces, piece-other, text-pieces, added-pieces}
+use Rattle.makers.specs.Make.{piece, pieceAfter, text}
+use Rattle.makers.proofs.Made.{Made, text-made, text-fields}
+use Rattle.makers.proofs.Pieces.{Pieces, piece-other, text-pieces, added-pieces}
 use Rattle.texts.specs.Texts.{after}
 use Rattle.texts.specs.Words.{Words}
 

@@ -15,8 +15,8 @@ use borrow.Author.Tests.{ltb-false, eqb-false}
 use Rattle.theory.specs.Fn as fn
 use Rattle.theory.specs.Natural.{Natural}
 use Rattle.lent.specs.Mem.{NODES, slots, up, KIND, SPACE, NAME}
-use Rattle.arena.specs.Room.{freeNodes}
-use Rattle.arena.specs.Make.{copied, tagOf}
+use Rattle.lent.specs.Room.{freeNodes}
+use Rattle.makers.specs.Make.{copied, tagOf}
 use Rattle.arena.proofs.Lengths.{slots-same}
 use Rattle.arena.proofs.Ancestors.{kind-free}
 use Rattle.places.specs.Places.{Places, at, pushed, swapped, lastWith, down, never, placeOf}

@@ -13,7 +13,7 @@ use Rattle.theory.specs.Ord.{Wrap}
 use Rattle.theory.specs.Natural.{Natural}
 use Rattle.lent.specs.Mem.{NODES, slots, field, up, KIND, PARENT, FIRST, LAST, DOCUMENT, ELEMENT, TEXT, COMMENT, CONTENTS}
 use Rattle.arena.specs.Links.{moved}
-use Rattle.arena.specs.Make.{copied}
+use Rattle.makers.specs.Make.{copied}
 use Rattle.arena.proofs.Lengths.{length-appended, length-moved}
 use Rattle.arena.proofs.Children.{Forest, appended-parents, appended-children, moved-parents, moved-children}
 use Rattle.arena.proofs.Others.{NoLink, appended-field, moved-field}

@@ -14,9 +14,9 @@ use Rattle.theory.specs.Fn.{at, Upd, upd-set}
 use Rattle.theory.specs.Ord.{clone, copied}
 use Rattle.theory.specs.Natural.{Natural, natural→ord, ord→natural}
 use Rattle.lent.specs.Mem.{NODES, slots, field, up, KIND, TIE, SPACE, NAME, ELEMENT}
-use Rattle.arena.specs.Make as make
+use Rattle.makers.specs.Make as make
 use Rattle.arena.specs.Links.{detached}
-use Rattle.arena.proofs.Made.{Made, Fields}
+use Rattle.makers.proofs.Made.{Made, Fields}
 use Rattle.arena.proofs.Lengths.{length-detached}
 use Rattle.arena.proofs.Others.{NoLink, detached-field}
 use Rattle.arena.proofs.Ancestors.{kind-free}

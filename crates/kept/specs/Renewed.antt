@@ -7,7 +7,7 @@ use mathlib.Core.List.{List}
 use lib.ListN.{length, set}
 use Rattle.lent.specs.Mem.{NODES, slots, field, KIND, ELEMENT}
 use Rattle.arena.specs.Links.{detached, moved}
-use Rattle.arena.specs.Make.{copied, tagOf}
+use Rattle.makers.specs.Make.{copied, tagOf}
 use Rattle.arena.proofs.Ancestors.{kind-free}
 use Rattle.arena.proofs.Lengths.{slots-same, length-detached}
 use Rattle.arena.proofs.Others.{appended-field, detached-field, moved-field}

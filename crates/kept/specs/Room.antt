@@ -9,7 +9,7 @@ use lib.ListN.{length}
 use lib.Dec.{eqb, ltb}
 use borrow.Author.Tests.{lt-ltb, ltb-false, eqb-false}
 use Rattle.lent.specs.Mem.{Region, NODES, PIECES, PAIRS, slots, inside}
-use Rattle.arena.specs.Room.{freeNodes, freePieces, freePairs, fresh}
+use Rattle.lent.specs.Room.{freeNodes, freePieces, freePairs, fresh}
 
 -- a slot below the count lies in the bytes
 pub held-in : (r : Region) (m : List ℕ) (n : ℕ) → n < slots r m → inside r m n ≡ true

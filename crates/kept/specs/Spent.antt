@@ -7,7 +7,7 @@ use lib.ListN.{length}
 use Rattle.lent.specs.Mem.{NODES, slots}
 use Rattle.lent.proofs.Kit.{length-store}
 use Rattle.arena.specs.Links.{detached, moved}
-use Rattle.arena.specs.Make.{bareLinks, bareRest, bare, tagged, plain, copied}
+use Rattle.makers.specs.Make.{bareLinks, bareRest, bare, tagged, plain, copied}
 use Rattle.arena.proofs.Lengths.{slots-same, length-appended, length-inserted, length-detached, length-moved}
 use Rattle.state.specs.Full.{withStack, withList, withNodes}
 use Rattle.standard.specs.declared.Place.{Place}

@@ -16,9 +16,9 @@ use Rattle.theory.specs.Ord.{born, push}
 use Rattle.theory.specs.Natural.{Natural, natural→ord, ord→natural}
 use Rattle.lent.specs.Mem.{NODES, slots, inside, field, up, KIND, PARENT, TIE, SPACE, NAME, MARK, START, COUNT, PIECE, END, ELEMENT, TEXT, CONTENTS}
 use Rattle.lent.proofs.Kit.{reads, length-store}
-use Rattle.arena.specs.Make.{bare, plain, tied}
-use Rattle.arena.specs.declared.make.Tag.{Tag}
-use Rattle.arena.proofs.Made.{Made, Fields, noTag, bare-made, bare-fields, plain-made, plain-fields, tied-field, tied-other, tied-both, made-children}
+use Rattle.makers.specs.Make.{bare, plain, tied}
+use Rattle.makers.specs.declared.make.Tag.{Tag}
+use Rattle.makers.proofs.Made.{Made, Fields, noTag, bare-made, bare-fields, plain-made, plain-fields, tied-field, tied-other, tied-both, made-children}
 use Rattle.arena.proofs.Children.{Forest}
 use Rattle.arena.proofs.Lengths.{slots-same}
 use Rattle.arena.proofs.Ancestors.{up-parent, up-tie, up-same}

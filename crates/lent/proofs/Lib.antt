@@ -1,1 +1,2 @@
 pub mod Kit
+pub mod Lowest

@@ -227,4 +227,5 @@ pub fn put_pair(mem: &mut [u8], n: u16, f: usize, v: u16)
     }
 }
 
+pub mod room;
 pub mod wide;

@@ -6,8 +6,8 @@ ghost use Rattle.edge.specs.Public.{whole, Checked};
 ghost use Rattle.queries.specs.Told.{refused};
 ghost use Rattle.queries.specs.BodyElem.{second, given, bodyElem};
 use crate::Asked;
-use builder::html;
 use lent::Node;
+use location::html;
 use names::tag;
 use state::State;
 

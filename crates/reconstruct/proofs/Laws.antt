@@ -9,8 +9,8 @@ use native.Mathlib.Numerals.{sub-one}
 use lib.ListN.{length, getD}
 use borrow.Author.Tests.{lt-ltb, le-ltb, eq-eqb, ne-eqb}
 use Rattle.lent.specs.Mem.{slots}
-use Rattle.arena.specs.Room.{freeNodes, fresh}
-use Rattle.arena.specs.Make.{copied}
+use Rattle.lent.specs.Room.{freeNodes, fresh}
+use Rattle.makers.specs.Make.{copied}
 use Rattle.places.specs.Places.{Places, placesOf, pushed, swapped, down, never, placeOf}
 use Rattle.places.specs.declared.Found.{Found}
 use Rattle.places.specs.declared.Found.the-variants.{At, Nothing}
@@ -26,8 +26,8 @@ use Rattle.standard.specs.Stack.{isFound}
 use Rattle.standard.specs.Formatting.{after, isMarkerOrOpen, firstLost, anewAt, anew, anewRoom, reconstructed}
 use Rattle.standard.specs.declared.Place.{Place}
 use Rattle.small.proofs.Laws.{size-of, all-put, list-stays}
-use Rattle.arena.proofs.Lowest.{fresh-is}
-use Rattle.builder.proofs.Laws.{usual-is}
+use Rattle.lent.proofs.Lowest.{fresh-is}
+use Rattle.location.proofs.Laws.{usual-is}
 
 -- ---- the entries that are lost
 

@@ -4,15 +4,15 @@ ghost use mathlib.Core.List.{List};
 ghost use Prim.Native.Nat.{ℕ, _+_, _-_, _<_, _≤_};
 ghost use lib.ListN.{length};
 ghost use Rattle.places.specs.Places.{placesOf};
-ghost use Rattle.arena.specs.Room.{fresh};
-ghost use Rattle.arena.specs.Make.{copied};
+ghost use Rattle.lent.specs.Room.{fresh};
+ghost use Rattle.makers.specs.Make.{copied};
 ghost use Rattle.state.specs.declared.Context.{Context};
 ghost use Rattle.state.specs.Full.{full, result};
 ghost use Rattle.standard.specs.Place.{attached};
 ghost use Rattle.standard.specs.Insertion.{usualPlace};
 ghost use Rattle.standard.specs.Formatting.{isMarkerOrOpen, firstLost, anewAt, anew, reconstructed};
-use builder::place;
 use lent::Node;
+use location::place;
 use places::Found;
 use state::Core;
 use state::Done;
@@ -56,8 +56,8 @@ fn copy_in(h: &[u16], core: Core, nodes: &mut [u8], e: Node) -> u16
     let depth = core.depth;
     let i = depth - 1;
     let p = place::appropriate_place_for_insertion(nodes, h, depth, core.flags.foster, Node(h[i]));
-    let n = arena::room::next(core.counts.nodes);
-    arena::make::copy_element(nodes, Node(n), e);
+    let n = lent::room::next(core.counts.nodes);
+    makers::make::copy_element(nodes, Node(n), e);
     place::attach(nodes, p, Node(n));
     n
 }
@@ -107,7 +107,7 @@ pub fn reconstruct_active_formatting_elements(
     let count = core.counts.list;
     let first = first_lost(h, depth, list, count);
     let lost = count - first;
-    if arena::room::free_nodes(nodes, core.counts.nodes) < lost {
+    if lent::room::free_nodes(nodes, core.counts.nodes) < lost {
         return Done {
             answer: 4,
             core: core,

@@ -8,7 +8,7 @@ use native.Mathlib.Omega.{arith}
 use native.Mathlib.Numerals.{sub-one}
 use lib.ListN.{length}
 use Rattle.lent.specs.Mem.{slots}
-use Rattle.arena.specs.Room.{freeNodes}
+use Rattle.lent.specs.Room.{freeNodes}
 use Rattle.places.specs.Places.{Places, placesOf, placeOf}
 use Rattle.places.specs.declared.Found.{Found}
 use Rattle.places.specs.declared.Found.the-variants.{At, Nothing}

@@ -163,9 +163,9 @@ pub fn put_state(
     out: &mut [u8],
     at: usize,
 ) -> usize {
-    let n = arena::room::free_nodes(nodes, 0);
-    let p = arena::room::free_pieces(pieces, 0);
-    let q = arena::room::free_pairs(pairs, 0);
+    let n = lent::room::free_nodes(nodes, 0);
+    let p = lent::room::free_pieces(pieces, 0);
+    let q = lent::room::free_pairs(pairs, 0);
     let a = put_record(st, n, list.len(), modes.len(), p, q, out, at);
     let i = lent::least(st.counts.nodes, n);
     let j = lent::least(st.counts.pieces, p);

@@ -40,7 +40,7 @@ fn fill(
     pairs: &mut [u8],
 ) -> usize {
     let a = after_stack(s);
-    let n = lent::least(load::number(s, 5), arena::room::free_nodes(nodes, 0));
+    let n = lent::least(load::number(s, 5), lent::room::free_nodes(nodes, 0));
     let b = load::slots(s, a, Region::Nodes, nodes, n);
     let l = lent::least(load::number(s, 6), list.len());
     load::places(s, b, list, l);
@@ -52,9 +52,9 @@ fn fill_rest(s: &[u8], at: usize, modes: &mut [u16], pieces: &mut [u8], pairs: &
     let m = lent::least(load::number(s, 7), modes.len());
     load::places(s, at, modes, m);
     let a = load::sum(at, m);
-    let p = lent::least(load::number(s, 8), arena::room::free_pieces(pieces, 0));
+    let p = lent::least(load::number(s, 8), lent::room::free_pieces(pieces, 0));
     let b = load::slots(s, a, Region::Pieces, pieces, p);
-    let q = lent::least(load::number(s, 9), arena::room::free_pairs(pairs, 0));
+    let q = lent::least(load::number(s, 9), lent::room::free_pairs(pairs, 0));
     load::slots(s, b, Region::Pairs, pairs, q)
 }
 

@@ -10,8 +10,8 @@ use Rattle.names.specs.Tag as tag
 use Rattle.names.specs.Space as space
 use Rattle.names.specs.Sets.{isIn, Formatting, Special, DefaultScope}
 use Rattle.arena.specs.Links.{appended, detached, moved}
-use Rattle.arena.specs.Make.{copied}
-use Rattle.arena.specs.Room.{freeNodes}
+use Rattle.makers.specs.Make.{copied}
+use Rattle.lent.specs.Room.{freeNodes}
 use Rattle.places.specs.Places.{Places, at, same, without, within, swapped, cut, firstWith, lastWith, placeOf, exchanged, left}
 use Rattle.places.specs.declared.Found.{Found}
 use Rattle.places.specs.declared.Found.the-variants.{At, Nothing}

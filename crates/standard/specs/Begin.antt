@@ -9,9 +9,9 @@ use Rattle.names.specs.Numbers.{isName}
 use Rattle.names.specs.Space as space
 use Rattle.names.specs.Tag as tag
 use Rattle.arena.specs.Links.{appended}
-use Rattle.arena.specs.Make.{document, element}
-use Rattle.arena.specs.Room.{freeNodes}
-use Rattle.arena.specs.declared.make.Tag.{Tag}
+use Rattle.makers.specs.Make.{document, element}
+use Rattle.lent.specs.Room.{freeNodes}
+use Rattle.makers.specs.declared.make.Tag.{Tag}
 use Rattle.state.specs.declared.Context.{Context}
 use Rattle.state.specs.declared.Context.the-variants.{None, Element}
 use Rattle.state.specs.declared.State.{State}

@@ -8,9 +8,9 @@ use lib.Dec.{eqb, ltb}
 use Rattle.names.specs.Space as space
 use Rattle.names.specs.Sets.{isIn, Formatting}
 use Rattle.lent.specs.Mem.{PAIRS, load, field, NAME, START, COUNT}
-use Rattle.arena.specs.Room.{freeNodes, freePairs}
-use Rattle.arena.specs.Make.{copied}
-use Rattle.arena.specs.declared.make.Tag.{Tag}
+use Rattle.lent.specs.Room.{freeNodes, freePairs}
+use Rattle.makers.specs.Make.{copied}
+use Rattle.makers.specs.declared.make.Tag.{Tag}
 use Rattle.places.specs.Places.{Places, at, pushed, swapped, leftAt, firstWith, lastWith, never, placeOf}
 use Rattle.places.specs.declared.Found.{Found}
 use Rattle.places.specs.declared.Found.the-variants.{At, Nothing}

@@ -8,9 +8,9 @@ use Rattle.names.specs.Numbers.{isName}
 use Rattle.names.specs.Space as space
 use Rattle.names.specs.Tag as tag
 use Rattle.lent.specs.Mem.{field, putField, END}
-use Rattle.arena.specs.Room.{freeNodes, freePieces, freePairs}
-use Rattle.arena.specs.Make.{element, comment, text, piece, pieceAfter, nodesOf}
-use Rattle.arena.specs.declared.make.Tag.{Tag}
+use Rattle.lent.specs.Room.{freeNodes, freePieces, freePairs}
+use Rattle.makers.specs.Make.{element, comment, text, piece, pieceAfter, nodesOf}
+use Rattle.makers.specs.declared.make.Tag.{Tag}
 use Rattle.places.specs.Places.{pushed}
 use Rattle.state.specs.Full.{Full, Result, refused, done, withStack, withNodes, withPieces, withPairs}
 use Rattle.standard.specs.Html.{current}

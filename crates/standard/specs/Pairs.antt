@@ -5,7 +5,7 @@ use mathlib.Core.Bool.{Bool, true, not, _&&_}
 use mathlib.Core.List.{List, [], _∷_, _++_}
 use Rattle.names.specs.Numbers.{isName}
 use Rattle.names.specs.Sets.{member}
-use Rattle.arena.specs.Make.{pair}
+use Rattle.makers.specs.Make.{pair}
 use Rattle.records.specs.Pair.{nameAt, textAt, pairNext}
 
 -- k pairs from byte i of the input on: names and text numbers

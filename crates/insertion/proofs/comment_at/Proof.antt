@@ -3,7 +3,7 @@
 use native.Mathlib.Omega.{arith}
 use Rattle.insertion.proofs.Laws as laws
 use mathlib.Core.Path.{refl, _∙_}
-use Rattle.arena.proofs.Lowest.{nodes-few}
+use Rattle.lent.proofs.Lowest.{nodes-few}
 use borrow.Author.Needs.{needs}
 use Rattle.insertion.proofs.comment_at.Statement.{statement}
 use Rattle.insertion.proofs.comment_at.Tie as tie

@@ -3,7 +3,7 @@
 use native.Mathlib.Omega.{arith}
 use Rattle.insertion.proofs.Laws as laws
 use mathlib.Core.Path.{refl}
-use Rattle.arena.proofs.Lowest.{pieces-few}
+use Rattle.lent.proofs.Lowest.{pieces-few}
 use borrow.Author.Needs.{needs}
 use Rattle.insertion.proofs.join_text.Statement.{statement}
 use Rattle.insertion.proofs.join_text.Tie as tie

@@ -1,7 +1,7 @@
 -- `insertion::usual_place` meets its contract.
 -- Assumes nothing.
 use native.Mathlib.Omega.{arith}
-use Rattle.builder.proofs.Laws as laws
+use Rattle.location.proofs.Laws as laws
 use borrow.Author.Needs.{needs}
 use Rattle.insertion.proofs.usual_place.Statement.{statement}
 use Rattle.insertion.proofs.usual_place.Tie as tie
