@@ -2,7 +2,7 @@
 use lent::Node;
 
 // In the place of an entry, or right after one.
-#[derive(Drop)]
+#[derive(Clone, Copy)]
 pub enum Bookmark {
     Replace(Node),
     InsertAfter(Node),

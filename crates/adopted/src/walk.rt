@@ -11,7 +11,7 @@ use places::Found;
 use state::Core;
 
 // Where the inner loop stands.
-#[derive(Drop)]
+#[derive(Clone, Copy)]
 pub struct Walk {
     pub core: Core,
     pub last: u16,

@@ -1,3 +1,4 @@
+#![tactic(auto)]
 // Calls 8 and 9: the adoption agency for an end tag, and for a start tag `a` that meets an `a` in the list (13.2.6.4.7).
 ghost use Rattle.std.specs.Prelude.{◌≡◌, List, ℕ, ◌<◌, ◌≤◌, length};
 ghost use Rattle.places.specs.Places.{places_of, place_of};

@@ -1,3 +1,4 @@
+#![tactic(auto)]
 // Begin: a new state, whatever the lent memory holds.
 ghost use Rattle.std.specs.Prelude.{◌≡◌, set};
 ghost use Rattle.standard.specs.Begin.{bad_mark, bad_context, is_template_context, first_modes, begin_answer, begin_nodes, begin_modes, begin_state, begun, begin_of};
@@ -8,7 +9,7 @@ use names::{Namespace, tag};
 use state::{Context, Counts, Flags, Stack, State};
 
 // A call's answer, and the state after it.
-#[derive(Drop)]
+#[derive(Clone, Copy)]
 pub struct Called {
     pub answer: usize,
     pub state: State,

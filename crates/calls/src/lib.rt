@@ -1,3 +1,4 @@
+#![tactic(auto)]
 // Runs of records, and single calls given as a record. The state is checked first, once.
 ghost use Rattle.std.specs.Prelude.{◌≡◌, ◌-◌};
 ghost use Rattle.sound.specs.State.{SoundFull};
@@ -10,7 +11,7 @@ use records::Item;
 use state::{Context, Core, Done, State};
 
 // A run's answer, how many records were done, and the `Core` after it.
-#[derive(Drop)]
+#[derive(Clone, Copy)]
 pub struct Went {
     pub answer: usize,
     pub done: usize,
@@ -110,7 +111,7 @@ fn run_on(
 }
 
 // A run's answer, how many records were done, and the state after it.
-#[derive(Drop)]
+#[derive(Clone, Copy)]
 pub struct Ran {
     pub answer: usize,
     pub done: usize,
@@ -216,7 +217,7 @@ fn call_on(
 }
 
 // A single call's answer, how many nodes it took (an adoption reports them), and the state after it.
-#[derive(Drop)]
+#[derive(Clone, Copy)]
 pub struct Single {
     pub answer: usize,
     pub taken: usize,

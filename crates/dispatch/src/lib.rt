@@ -1,3 +1,4 @@
+#![tactic(auto)]
 // A call by its number, on a sound state. Each arm lends what its call touches, and no more.
 ghost use Rattle.std.specs.Prelude.{◌≡◌, List, ℕ, ◌≤◌, ◌<◌, length};
 ghost use Rattle.state.specs.declared.Context.{Context};

@@ -1,3 +1,4 @@
+#![tactic(auto)]
 // A leaflet from its records: standard input is run in 2,048 nodes, and the tree goes to standard output, line by line, then
 // how many records were done and the answer.
 ghost use Rattle.std.specs.Prelude.{◌≡◌, cond, ltb, min};
@@ -16,7 +17,7 @@ const MOST: usize = 16384;
 const LINES: usize = 34816;
 
 // What was run.
-#[derive(Drop)]
+#[derive(Clone, Copy)]
 struct Done {
     answer: usize,
     records: usize,

@@ -1,3 +1,4 @@
+#![tactic(auto)]
 // The dump of the tree, in document order, one line at a time: a cursor says which line comes next.
 // Every function is total: none asks anything of what is lent.
 ghost use Rattle.std.specs.Prelude.{◌≡◌, min, length};
@@ -13,7 +14,7 @@ mod thing;
 
 // A line: part 0 of a node is its own line, then come its attributes, counted from 1, and then the line `content` of a template.
 // Node 0 stands for no more lines. The level is the node's own.
-#[derive(Drop)]
+#[derive(Clone, Copy)]
 pub struct Cursor {
     pub node: u16,
     pub level: usize,

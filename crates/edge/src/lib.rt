@@ -1,3 +1,4 @@
+#![tactic(auto)]
 // The state check at the edge: the record and the lent memory as one state.
 ghost use Rattle.theory.specs.Says.{Says};
 ghost use Rattle.sound.specs.State.{SoundFull};

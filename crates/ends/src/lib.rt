@@ -1,3 +1,4 @@
+#![tactic(auto)]
 // Whether going up from each node ends: each node gets its depth, and then each is compared with the one above it.
 ghost use Rattle.std.specs.Prelude.{◌≡◌, ◌≤◌, ◌+◌};
 ghost use Rattle.ends.specs.Say.{Given, Climbed, Assigned, Filled, Known};
@@ -5,7 +6,7 @@ ghost use Rattle.lent.specs.Mem.{up};
 ghost use Rattle.theory.specs.Says.{Says};
 ghost use Rattle.theory.specs.Depth.{Ends, InRange, depth};
 
-#[derive(Drop)]
+#[derive(Clone, Copy)]
 pub struct Got {
     y: usize,
     k: usize,

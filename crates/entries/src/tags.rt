@@ -7,7 +7,7 @@ ghost use Rattle.standard.specs.Formatting.{pairs_of, same_pairs, same_tag};
 use lent::{Node, Pair};
 
 // A new tag as its record has it: the name, where the pairs begin, and how many they are.
-#[derive(Drop)]
+#[derive(Clone, Copy)]
 pub struct Token {
     pub name: u16,
     pub from: usize,

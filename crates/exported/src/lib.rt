@@ -1,3 +1,4 @@
+#![tactic(auto)]
 // The builder for tests and measurements written in C or Rust, which link it as a static library: requests on saved states, and
 // runs whose state is checked again. The memory is the caller's and may hold anything.
 use state::{Context, State};

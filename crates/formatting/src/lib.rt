@@ -1,3 +1,4 @@
+#![tactic(auto)]
 // Call 4: an element is created for a formatting tag, and pushed onto the list of active formatting elements (13.2.4.3).
 ghost use Rattle.std.specs.Prelude.{◌≡◌, false, not, List, ltb, ℕ, ◌<◌, ◌≤◌, length};
 ghost use Rattle.places.specs.Places.{places_of, left_at};

@@ -1,3 +1,4 @@
+#![tactic(auto)]
 // Calls 1 (element), 2 (text) and 3 (comment): 13.2.6.1.
 ghost use Rattle.std.specs.Prelude.{◌≡◌, List, true, not, ◌&&◌, ltb, ℕ, ◌<◌, ◌≤◌, length};
 ghost use Rattle.state.specs.declared.Context.{Context};

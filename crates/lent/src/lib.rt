@@ -1,10 +1,11 @@
+#![tactic(auto)]
 // Lent bytes as numbered slots of 16-bit fields, low byte first: nodes, text pieces and attribute pairs.
 // A slot past the end of what is lent, or past the largest size, reads as 0, and a store there does nothing.
 ghost use Rattle.std.specs.Prelude.{◌≡◌, ◌+◌, ◌*◌, ◌<◌, min, length};
 ghost use Rattle.lent.specs.Mem.{NODES, PIECES, PAIRS, get16, put16, load, store, link};
 
 // The number of a node: 0 is none.
-#[derive(Drop)]
+#[derive(Clone, Copy)]
 pub struct Node(pub u16);
 
 impl Node {
@@ -75,7 +76,7 @@ impl Node {
 }
 
 // What a node is.
-#[derive(Drop)]
+#[derive(Clone, Copy)]
 pub struct Kind(pub u16);
 
 impl Kind {
@@ -91,7 +92,7 @@ impl Kind {
 }
 
 // A piece of a text node: its text number, and the piece after it. Piece 0 is none.
-#[derive(Drop)]
+#[derive(Clone, Copy)]
 pub struct Piece(pub u16);
 
 impl Piece {
@@ -103,7 +104,7 @@ impl Piece {
 }
 
 // An attribute: its name and its text number. Pairs are numbered from 0.
-#[derive(Drop)]
+#[derive(Clone, Copy)]
 pub struct Pair(pub u16);
 
 impl Pair {

@@ -1,3 +1,4 @@
+#![tactic(auto)]
 // The links of the lent nodes: each list of children is whole, and each child is met once.
 ghost use Rattle.std.specs.Prelude.{◌≡◌, ◌≤◌, ◌<◌, ◌+◌, length};
 ghost use Rattle.lent.specs.Mem.{field, NEXT, PARENT, FIRST};

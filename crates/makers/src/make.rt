@@ -7,7 +7,7 @@ use lent::{Kind, Node, Pair, Piece};
 use names::tag;
 
 // An element's namespace, name and mark, and its attributes: the first pair, and how many.
-#[derive(Drop)]
+#[derive(Clone, Copy)]
 pub struct Tag {
     pub space: u16,
     pub name: u16,

@@ -1,3 +1,4 @@
+#![tactic(auto)]
 // Names: a table of byte strings in ascending order, numbered from 1, with lookup from bytes to number and back.
 ghost use Rattle.std.specs.Prelude.{◌≡◌, ◌<◌};
 ghost use Rattle.names.specs.Table.{limit};
@@ -12,7 +13,7 @@ pub mod tag;
 mod words;
 
 // A name's number: from 1 up to LIMIT a name of the table, from HOST on one of the host's.
-#[derive(Drop)]
+#[derive(Clone, Copy)]
 pub struct Name(pub u16);
 
 impl Name {
@@ -23,7 +24,7 @@ impl Name {
     pub const HOST: u16 = 512;
 }
 
-#[derive(Drop)]
+#[derive(Clone, Copy)]
 pub struct Namespace(pub u16);
 
 impl Namespace {

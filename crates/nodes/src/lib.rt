@@ -1,3 +1,4 @@
+#![tactic(auto)]
 // What a node must be, by its kind.
 ghost use Rattle.std.specs.Prelude.{◌≤◌, ◌<◌, ◌+◌};
 ghost use Rattle.lent.specs.Mem.{field, SPACE, NAME, MARK};

@@ -1,3 +1,4 @@
+#![tactic(auto)]
 // No stack entry is above an earlier one, and none is there twice.
 ghost use Rattle.std.specs.Prelude.{ℕ, ◌≤◌, ◌<◌, ◌+◌, length, take, get_or};
 ghost use Rattle.lent.specs.Mem.{up};

@@ -1,8 +1,9 @@
+#![tactic(auto)]
 // Places of which the first d are in use: the stack, the formatting list, the template modes.
 ghost use Rattle.std.specs.Prelude.{◌≡◌, ◌+◌, ◌-◌, ◌≤◌, ◌<◌, length};
 ghost use Rattle.places.specs.Places.{places_of, pushed, without, within, swapped, cut, place_of, exchanged, renamed, after_at, left, first_of, without_any};
 
-#[derive(Drop)]
+#[derive(Clone, Copy)]
 pub enum Found {
     At(usize),
     Nothing,

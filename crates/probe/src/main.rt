@@ -1,3 +1,4 @@
+#![tactic(auto)]
 // Tests on any state: standard input is a saved state and a request (docs/LAYOUT.md); what comes of it goes to standard output.
 // The lent memory is not cleared first: no answer depends on what it held.
 fn print(out: &[u8], n: usize) {

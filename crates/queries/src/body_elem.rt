@@ -12,7 +12,7 @@ use location::html;
 use names::tag;
 use state::State;
 
-#[derive(Drop)]
+#[derive(Clone, Copy)]
 pub enum Body {
     At(u16),
     Nothing,

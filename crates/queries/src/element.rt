@@ -7,7 +7,7 @@ use lent::Node;
 use state::Context;
 
 // An element's expanded name, and its mark.
-#[derive(Drop)]
+#[derive(Clone, Copy)]
 pub struct Expanded {
     pub space: u16,
     pub name: u16,

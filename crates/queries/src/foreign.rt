@@ -13,7 +13,7 @@ use names::{Name, Namespace, sets, tag};
 use state::{Context, State};
 
 // The kinds of tokens.
-#[derive(Drop)]
+#[derive(Clone, Copy)]
 pub struct Token(pub u16);
 
 impl Token {

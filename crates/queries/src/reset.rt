@@ -13,7 +13,7 @@ use names::{Namespace, tag};
 use state::{Context, State};
 
 // Insertion modes, by their number in the standard's order.
-#[derive(Drop)]
+#[derive(Clone, Copy)]
 pub struct Mode(pub u16);
 
 impl Mode {
@@ -41,7 +41,7 @@ impl Mode {
 }
 
 // What one entry decides: the mode, that the current template insertion mode is the mode, or nothing.
-#[derive(Drop)]
+#[derive(Clone, Copy)]
 pub enum Step {
     Mode(u16),
     Template,
@@ -49,7 +49,7 @@ pub enum Step {
 }
 
 // What the stack decides.
-#[derive(Drop)]
+#[derive(Clone, Copy)]
 pub enum Reset {
     Mode(u16),
     Template,

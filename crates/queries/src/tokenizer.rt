@@ -9,7 +9,7 @@ use crate::Asked;
 use names::{Namespace, tag};
 use state::{Context, State};
 
-#[derive(Drop)]
+#[derive(Clone, Copy)]
 pub enum Start {
     Data,
     Rcdata,

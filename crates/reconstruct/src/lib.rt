@@ -1,3 +1,4 @@
+#![tactic(auto)]
 // Call 7: reconstruct the active formatting elements (13.2.4.3).
 ghost use Rattle.std.specs.Prelude.{◌≡◌, List, ℕ, ◌+◌, ◌-◌, ◌<◌, ◌≤◌, length};
 ghost use Rattle.places.specs.Places.{places_of};

@@ -16,7 +16,7 @@ use stacks::{close, walk};
 use state::Core;
 
 // The record after a round, and whether there is another.
-#[derive(Drop)]
+#[derive(Clone, Copy)]
 pub struct Round {
     pub core: Core,
     pub again: bool,

@@ -1,3 +1,4 @@
+#![tactic(auto)]
 // Saved states: the record and the used part of each lent region as 16-bit words, and back as hexadecimal text (docs/LAYOUT.md).
 // For tests: these functions are proved to be safe and to end, and the tests compare what they write.
 pub mod load;

@@ -2,7 +2,7 @@
 // from number 0 on.
 use lent::Node;
 
-#[derive(Drop)]
+#[derive(Clone, Copy)]
 pub enum Region {
     Nodes,
     Pieces,

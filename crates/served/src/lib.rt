@@ -1,3 +1,4 @@
+#![tactic(auto)]
 // One request on a saved state: the answer as text, and the state after it.
 ghost use Rattle.std.specs.Prelude.{◌≤◌};
 
@@ -7,7 +8,7 @@ use saved::{load, save};
 use state::State;
 
 // What a request gave.
-#[derive(Drop)]
+#[derive(Clone, Copy)]
 pub struct Given {
     pub answer: usize,
     pub result: usize,

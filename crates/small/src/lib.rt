@@ -1,3 +1,4 @@
+#![tactic(auto)]
 // The calls that touch places and flags alone: 5, 6, 14 to 18. Each says what it does to the whole state, for any part of it that it is
 // not lent.
 ghost use Rattle.std.specs.Prelude.{◌≡◌, List, ℕ, ◌<◌, ◌≤◌, length};

@@ -1,3 +1,4 @@
+#![tactic(auto)]
 // The state check: yes exactly to a sound state, whatever the lent bytes and the numbers are.
 ghost use Rattle.std.specs.Prelude.{◌≡◌, ◌≤◌, ◌<◌, length, take};
 ghost use Rattle.lent.specs.Mem.{up};

@@ -12,7 +12,7 @@ use names::{sets, tag};
 use places::Found;
 
 // A set of elements: those of a scope, the special ones, or those whose end tag is implied.
-#[derive(Drop)]
+#[derive(Clone, Copy)]
 pub enum Category {
     Default,
     ListItem,
@@ -24,7 +24,7 @@ pub enum Category {
 }
 
 // What a walk looks for: a node, an HTML element with a name, or an HTML td or th.
-#[derive(Drop)]
+#[derive(Clone, Copy)]
 pub enum Wanted {
     Node(u16),
     Html(u16),

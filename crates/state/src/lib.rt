@@ -1,9 +1,10 @@
+#![tactic(auto)]
 // The record: what is small of the state, by value. The lent memory stands beside it.
 ghost use Rattle.std.specs.Prelude.{◌≡◌, replicate};
 ghost use Rattle.state.specs.Fields.{set_depth, set_nodes, set_pieces, set_pairs, set_list, set_modes, set_foster, set_head, core_of, state_of, empty_state};
 
 // The stack of open elements: places for node numbers, of which the first `depth` are in use.
-#[derive(Drop)]
+#[derive(Clone, Copy)]
 pub struct Stack {
     pub handles: [u16; 512],
     pub depth: usize,
@@ -24,7 +25,7 @@ impl Stack {
 }
 
 // How many of what is lent are used.
-#[derive(Drop)]
+#[derive(Clone, Copy)]
 pub struct Counts {
     pub nodes: usize,
     pub pieces: usize,
@@ -41,20 +42,20 @@ impl Counts {
 }
 
 // Foster parenting, and head element seen: each 0 or 1.
-#[derive(Drop)]
+#[derive(Clone, Copy)]
 pub struct Flags {
     pub foster: usize,
     pub head: usize,
 }
 
 // The fragment context, if there is one.
-#[derive(Drop)]
+#[derive(Clone, Copy)]
 pub enum Context {
     None,
     Element { space: u16, name: u16, mark: u16 },
 }
 
-#[derive(Drop)]
+#[derive(Clone, Copy)]
 pub struct State {
     pub stack: Stack,
     pub counts: Counts,
@@ -63,7 +64,7 @@ pub struct State {
 }
 
 // What goes through a run by value: the places of the stack are lent beside it, and what no call changes stays behind.
-#[derive(Drop)]
+#[derive(Clone, Copy)]
 pub struct Core {
     pub depth: usize,
     pub counts: Counts,
@@ -71,7 +72,7 @@ pub struct Core {
 }
 
 // A call's answer, and the record after it.
-#[derive(Drop)]
+#[derive(Clone, Copy)]
 pub struct Done {
     pub answer: usize,
     pub core: Core,

@@ -1,3 +1,4 @@
+#![tactic(auto)]
 // The pieces of the text nodes.
 ghost use Rattle.std.specs.Prelude.{◌≡◌, ℕ, ◌≤◌, ◌<◌, ◌+◌, length, get_or};
 ghost use Rattle.lent.specs.Mem.{field};

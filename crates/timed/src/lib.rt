@@ -1,3 +1,4 @@
+#![tactic(auto)]
 // A begin and a run, as the program has them, for a measurement in one process. It stands in a library of its own with one use of the
 // run, so that it is compiled as in the program.
 use state::{Context, State};
