@@ -1,6 +1,7 @@
 -- The operations on links, on lists of children: `Forest m c kids` says that the nodes 1 to c of the memory m have the children `kids`.
 -- After append, insert before, detach and move, the lists of the nodes concerned change as the names say, and no other list does.
 -- Assumes nothing.
+use Rattle.std.proofs.Math.Path.{subst}
 use Prim.Native.Nat.{ℕ, ◌≤◌, ◌<◌}
 use mathlib.Core.Path.{◌≡◌, refl, sym, ap, ◌∙◌}
 use mathlib.Core.Logic.{◌≢◌, ◌⊎◌, inl, inr}
@@ -145,7 +146,7 @@ module _ {m : List ℕ} {c : ℕ} {ks : ℕ → List ℕ} (f : Forest m c ks) wh
         fresh i = go (lst_or 0 a)
           where
             go : (lst 0 a ≡ 0) ⊎ In (lst 0 a) a → ⊥
-            go (inl q) = not_zero (kids.in_right 0 a (s ∷ b) (rw q at i))
+            go (inl q) = not_zero (kids.in_right 0 a (s ∷ b) (subst (λ (z : ℕ). In z (s ∷ b)) q i))
             go (inr j) = kids.run_apart (tree.links m) c (field m s PARENT) 0 a (s ∷ b) 0 (lst 0 a) not_zero run j i
 
         by : (field m s NEXT ≡ 0) ⊎ In (field m s NEXT) b → ⊥

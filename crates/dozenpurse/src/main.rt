@@ -9,6 +9,8 @@ ghost use Rattle.dozenpurse.specs.Leaflet as def;
 
 use dump::Cursor;
 use state::{Context, State};
+use std::io;
+use std::io::Read;
 
 // How much of standard input is run.
 const MOST: usize = 16384;
@@ -71,38 +73,59 @@ fn leaflet(
     }
 }
 
-fn print(line: &[u8], n: usize) {
-    if n <= line.len() {
-        io::write_all(1, &line[..n]);
+// Reads until the buffer is full or the input ends; how many bytes were read.
+fn read_full<R: Read>(input: &mut R, buffer: &mut [u8]) -> io::Result<usize> {
+    let mut done = 0;
+    while done < buffer.len() {
+        let n = input.read(&mut buffer[done..])?;
+        if n == 0 {
+            break;
+        }
+        done += n;
     }
+    Ok(done)
 }
 
-fn print_tree(nodes: &[u8], pieces: &[u8], pairs: &[u8], line: &mut [u8]) {
+fn print(rt: &impl Print, line: &[u8], n: usize) -> io::Result<()> {
+    if n <= line.len() {
+        return rt.write_all(&line[..n]);
+    }
+    Ok(())
+}
+
+fn print_tree(
+    rt: &impl Print,
+    nodes: &[u8],
+    pieces: &[u8],
+    pairs: &[u8],
+    line: &mut [u8],
+) -> io::Result<()> {
     let mut c = dump::start(nodes);
     let mut k: usize = 0;
     while k < LINES {
         if c.node == 0 {
-            return;
+            return Ok(());
         }
         let n = dump::line(nodes, pieces, pairs, c, line);
-        print(line, n);
+        print(rt, line, n)?;
         c = dump::next(nodes, c);
         k += 1;
     }
+    Ok(())
 }
 
-fn print_done(d: Done, line: &mut [u8]) {
+fn print_done(rt: &impl Print, d: Done, line: &mut [u8]) -> io::Result<()> {
     let a = saved::save::put_text(line, 0, b"records ");
     let b = saved::save::put_decimal(line, a, d.records);
     let c = saved::save::put_text(line, b, b" answer ");
     let e = saved::save::put_decimal(line, c, d.answer);
     let f = saved::save::put(line, e, b'\n');
-    print(line, f);
+    print(rt, line, f)
 }
 
-fn main() {
+fn main(rt: HostRuntime) -> io::Result<()> {
     let mut buffer = [0u8; 16385];
-    let n = io::read_full(0, &mut buffer);
+    let n = read_full(&mut rt.stdin(), &mut buffer)?;
     let mut nodes = [0u8; 65568];
     let mut list = [0u16; 256];
     let mut modes = [0u16; 64];
@@ -118,6 +141,6 @@ fn main() {
         &mut pairs,
     );
     let mut line = [0u8; 65536];
-    print_tree(&nodes, &pieces, &pairs, &mut line);
-    print_done(d, &mut line);
+    print_tree(&rt, &nodes, &pieces, &pairs, &mut line)?;
+    print_done(&rt, d, &mut line)
 }

@@ -21,6 +21,7 @@ short [] = true
 short (x ∷ xs) = leb (length x) 32 && short xs
 
 both : (a b : Bool) → T (a && b) → (T a) × (T b)
+both mathlib.Core.Bool.false b h = elim h [ ]
 both true b h = (tt, h)
 
 short_at : (xs : List (List ℕ)) (n : ℕ) → T (short xs) → length (get_or xs n []) ≤ 32

@@ -43,10 +43,12 @@ in_each f (y ∷ ys) x i = by (in_split x (f y) (each f ys) i) (in_each f ys x)
 
 each_in : (f : ℕ → List ℕ) (ys : List ℕ) (x y : ℕ) → In y ys → In x (f y) → In x (each f ys)
 unfolding each
+each_in f [] x y x4 i = elim x4 [ ]
 each_in f (z ∷ ys) x y (inl e) i = in_left x (f z) (each f ys) (rw e at i)
 each_in f (z ∷ ys) x y (inr a) i = in_right x (f z) (each f ys) (each_in f ys x y a i)
 
 out_in : (y z : ℕ) (ys : List ℕ) → Out y ys → In z ys → z ≢ y
+out_in y z [] o x'' = elim x'' [ ]
 out_in y z (x ∷ ys) o (inl e) = rw e o.0
 out_in y z (x ∷ ys) o (inr i) = out_in y z ys o.1 i
 

@@ -28,6 +28,7 @@ within_more u w [] h k = tt
 within_more u w (x ∷ xs) h k = (k.0, omega arith, within_more u w xs h k.2)
 
 pub within_in : (u : ℕ) (xs : List ℕ) (y : ℕ) → Within u xs → In y xs → (0 < y) × (y ≤ u)
+within_in u [] y w x'' = elim x'' [ ]
 within_in u (x ∷ xs) y w (inl e) = rw e (w.0, w.1)
 within_in u (x ∷ xs) y w (inr i) = within_in u xs y w.2 i
 

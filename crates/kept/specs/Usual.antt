@@ -98,6 +98,7 @@ module _ {m p q l f t : List ℕ} {c v u d k s foster head : ℕ} {x : Context} 
   has_first n z h y i e = by (o.tree.children.kids n) refl i
     where
       by : (ys : List ℕ) → o.tree.children.kids n ≡ ys → In y ys → ⊥
+      by mathlib.Core.List.[] g j = elim j [ ]
       by (r ∷ ys) g j =
           let b = run_in (tree.links m) c n 0 (o.tree.children.kids n) 0 r (o.tree.children.is_kids.run n z h) (rw g (inl refl)) in
           let a : field m n FIRST ≡ r = o.tree.children.is_kids.first n z h ∙ ap (λ (w : List ℕ). hd w 0) g in

@@ -88,6 +88,7 @@ fn foster_place(nodes: &[u8], h: &[u16], depth: usize) -> Place
     }
 }
 
+#[tactic(auto, using(crate::proofs::Laws::place_off, crate::proofs::Laws::place_fostered, crate::proofs::Laws::place_usual))]
 pub fn appropriate_place_for_insertion(
     nodes: &[u8],
     h: &[u16],

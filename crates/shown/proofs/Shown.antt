@@ -38,6 +38,7 @@ use Rattle.shown.proofs.Bounds.{few_every, within_all, few_below, low_every, low
 use Rattle.shown.proofs.Own.{own_tree, in_without, once_without}
 
 out_not : (x y : ℕ) (xs : List ℕ) → Out x xs → In y xs → y ≢ x
+out_not x y [] o x3 = elim x3 [ ]
 out_not x y (z ∷ xs) o (inl e) = rw e o.0
 out_not x y (z ∷ xs) o (inr i) = out_not x y xs o.1 i
 

@@ -74,10 +74,12 @@ Follow m c p (y ∷ ys) = (1 < y) × (y ≤ c) × (up m y ≡ p) × (beside m y 
 
 -- each of them is used, not the document, and right below p; where the first is not contents none is
 pub follow_in : (m : List ℕ) (c p : ℕ) (ys : List ℕ) → Follow m c p ys → (y : ℕ) → In y ys → (1 < y) × (y ≤ c) × (up m y ≡ p)
+follow_in m c p [] w y x'' = elim x'' [ ]
 follow_in m c p (x ∷ xs) w y (inl e) = rw e (w.0, w.1, w.2)
 follow_in m c p (x ∷ xs) w y (inr i) = follow_in m c p xs w.5 y i
 
 pub follow_plain : (m : List ℕ) (c p : ℕ) (ys : List ℕ) → Plain m ys → Follow m c p ys → (y : ℕ) → In y ys → field m y KIND ≢ CONTENTS
+follow_plain m c p [] a w y x3 = elim x3 [ ]
 follow_plain m c p (x ∷ xs) a w y (inl e) = rw e a
 follow_plain m c p (x ∷ xs) a w y (inr i) = follow_plain m c p xs w.4 w.5 y i
 

@@ -28,6 +28,7 @@ within_part u [] ys w = (tt, w)
 within_part u (x ∷ xs) ys w = let t = within_part u xs ys w.2 in ((w.0, w.1, t.0), t.1)
 
 pub within_in : (u x : ℕ) (xs : List ℕ) → Within u xs → In x xs → (0 < x) × (x ≤ u)
+within_in u x [] w x3 = elim x3 [ ]
 within_in u x (y ∷ xs) w (inl e) = rw e (w.0, w.1)
 within_in u x (y ∷ xs) w (inr i) = within_in u x xs w.2 i
 
@@ -96,10 +97,12 @@ module _ {f : ℕ → ℕ} {seen₀ seen : List ℕ} {u x y l k : ℕ} (g : Met 
 
       fresh : (p : ℕ) → In p g.xs ⊎ In p (y ∷ []) → at seen₀ p ≡ 0
       fresh p (inl i) = g.fresh p i
+      fresh p (inr (inr x3)) = elim x3 [ ]
       fresh p (inr (inl e)) = rw e (before (ℕ_discrete (at seen₀ y) 0))
 
       new : (p : ℕ) → In p g.xs ⊎ In p (y ∷ []) → at (set seen y 1) p ≢ 0
       new p (inl i) = set_kept p (g.marks.new p i) (ℕ_discrete p y)
+      new p (inr (inr x3)) = elim x3 [ ]
       new p (inr (inl e)) = rw (e, c.new) (λ w. omega arith)
 
       only : (p : ℕ) → at (set seen y 1) p ≢ 0 → Dec (p ≡ y) → (at seen₀ p ≢ 0) ⊎ In p (g.xs ++ y ∷ [])

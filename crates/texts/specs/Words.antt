@@ -45,12 +45,15 @@ texts→words {m} {q} {c} {u} s =
     }
   where
     used : (n : ℕ) → 0 < n → n ≤ c → Within u (pieces_of m q u n)
+    used zero z l = elim z [ ]
     used (suc n) z l = within_at (pieces_of m q u) u c n l s.within
 
     once : (n : ℕ) → 0 < n → n ≤ c → Once (pieces_of m q u n)
+    once zero z l = elim z [ ]
     once (suc n) z l = (once_at (pieces_of m q u) c n l s.once).0
 
     one : (n k p : ℕ) → 0 < n → n < k → k ≤ c → In p (pieces_of m q u n) → In p (pieces_of m q u k) → ⊥
+    one n zero p z h l i j = elim h [ ]
     one n (suc k) p z h l i j = (once_at (pieces_of m q u) c k l s.once).1 p j (in_lists (pieces_of m q u) k n p z (omega arith) i)
 
 pub words→texts : {m q : List ℕ} {c u : ℕ} → Words m q c u → Texts m q c u

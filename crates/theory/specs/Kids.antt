@@ -2,6 +2,7 @@
 -- Assumes nothing.
 use Rattle.std.specs.Prelude.{◌≡◌, refl, ◌≢◌, ◌⊎◌, ℕ, suc, ◌≤◌, ◌<◌, List, [], ◌∷◌, ◌++◌}
 use Rattle.std.proofs.Common.{sym, ap, ◌∙◌, inl, inr, ⊎_elim, lt_irrefl, le_refl, arith}
+use Rattle.std.proofs.Math.Path.{subst}
 use Rattle.std.proofs.Math.Logic.{⊎_map}
 use Rattle.std.proofs.Math.Decide.{ℕ_discrete, dec_lt}
 use Rattle.std.proofs.Math.Seq.{append_snoc}
@@ -38,6 +39,7 @@ pub record Kids (m : Mem) (c : ℕ) (kids : ℕ → List ℕ) : Type 0 where
 -- ---- lists
 
 pub in_left : (x : ℕ) (xs ys : List ℕ) → In x xs → In x (xs ++ ys)
+in_left x [] ys x'' = elim x'' [ ]
 in_left x (y ∷ xs) ys (inl e) = inl e
 in_left x (y ∷ xs) ys (inr h) = inr (in_left x xs ys h)
 
@@ -70,18 +72,21 @@ module _ (m : Mem) (c p : ℕ) where
   run_part l (x ∷ xs) ys r h = let t = run_part x xs ys r h.5 in ((h.0, h.1, h.2, h.3, h.4 ∙ hd_app xs ys r, t.0), t.1)
 
   pub run_in : (l : ℕ) (xs : List ℕ) (r x : ℕ) → Run m c p l xs r → In x xs → (0 < x) × (x ≤ c) × (m.par x ≡ p)
+  run_in l [] r x h x4 = elim x4 [ ]
   run_in l (y ∷ xs) r x h (inl e) = rw e (h.0, h.1, h.2)
   run_in l (y ∷ xs) r x h (inr i) = run_in y xs r x h.5 i
 
   run_prev : (l : ℕ) (xs : List ℕ) (r x : ℕ) → Run m c p l xs r → In x xs → In (m.prev x) (l ∷ xs)
+  run_prev l [] r x h x4 = elim x4 [ ]
   run_prev l (y ∷ xs) r x h (inl e) = inl (ap m.prev e ∙ h.3)
   run_prev l (y ∷ xs) r x h (inr i) = inr (run_prev y xs r x h.5 i)
 
   -- no child twice
   pub run_once : (l x : ℕ) (xs : List ℕ) (r : ℕ) → ¬ In l (x ∷ xs) → Run m c p l (x ∷ xs) r → ¬ In x xs
-  run_once l x xs r n h i = n (rw h.3 at (run_prev x xs r x h.5 i))
+  run_once l x xs r n h i = n (subst (λ (z : ℕ). In z (x ∷ xs)) h.3 (run_prev x xs r x h.5 i))
 
   pub run_apart : (l : ℕ) (xs ys : List ℕ) (r x : ℕ) → ¬ In l (xs ++ ys) → Run m c p l (xs ++ ys) r → In x xs → In x ys → ⊥
+  run_apart l [] ys r x n h x6 j = elim x6 [ ]
   run_apart l (y ∷ xs) ys r x n h (inl e) j = run_once l y (xs ++ ys) r n h (in_right y xs ys (rw e at j))
   run_apart l (y ∷ xs) ys r x n h (inr i) j = run_apart y xs ys r x (run_once l y (xs ++ ys) r n h) h.5 i j
 
@@ -108,7 +113,7 @@ module _ (m m' : Mem) (c c' p p' : ℕ) (le : c ≤ c') where
         omega arith,
         t.0,
         t.1 ∙ h.3,
-        g x (inl refl) (λ d. once (rw d (lst_in y xs))) ∙ h.4,
+        g x (inl refl) (λ d. once (subst (λ (z : ℕ). In z (y ∷ xs)) (sym d) (lst_in y xs))) ∙ h.4,
         run_right x (y ∷ xs) r r' once (λ z i. f z (inr i)) (λ z i d. g z (inr i) d) (λ i. e (inr i)) h.5,
       )
 
@@ -124,7 +129,7 @@ module _ (m m' : Mem) (c c' p p' : ℕ) (le : c ≤ c') where
         t.0,
         e (inl refl),
         t.1 ∙ h.4,
-        run_frame x xs r (λ y i. ((f y (inr i)).0, (f y (inr i)).1, g y (inr i) (λ d. once (rw d at i)))) h.5,
+        run_frame x xs r (λ y i. ((f y (inr i)).0, (f y (inr i)).1, g y (inr i) (λ d. once (subst (λ (z : ℕ). In z xs) d i)))) h.5,
       )
 
 pub lst_or : (l : ℕ) (xs : List ℕ) → (lst l xs ≡ l) ⊎ In (lst l xs) xs

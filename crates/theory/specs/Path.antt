@@ -2,6 +2,7 @@
 -- Assumes nothing.
 use Rattle.std.specs.Prelude.{◌≡◌, refl, ◌≢◌, List, [], ◌∷◌, ◌++◌, ℕ, zero, suc, ◌<◌, length}
 use Rattle.std.proofs.Common.{sym, ap, ◌∙◌, inl, inr, not-suc-le-zero, le_of_suc-le-suc, arith}
+use Rattle.std.proofs.Math.Path.{subst}
 use Rattle.std.proofs.Math.Logic.{if_pos, if_neg}
 use Rattle.std.proofs.Math.Decide.{ℕ_discrete}
 use Rattle.theory.specs.Fn.{In}
@@ -50,6 +51,7 @@ run_path m c p l [] h = refl
 run_path m c p l (x ∷ xs) h = (refl, (λ e. omega (arith, h.0)), rw h.4 (run_path m c p x xs h.5))
 
 pub in_out : (x : ℕ) (xs : List ℕ) → In x xs → Out x xs → ⊥
+in_out x [] x3 o = elim x3 [ ]
 in_out x (y ∷ xs) (inl e) o = o.0 (sym e)
 in_out x (y ∷ xs) (inr i) o = in_out x xs i o.1
 
@@ -58,5 +60,5 @@ pub path_add : (f f' : ℕ → ℕ) (e i : ℕ) → i ≢ 0 → f' e ≡ i → f
     → ¬ In i (y ∷ ys) → Path f x (y ∷ ys) 0 → Path f' x ((y ∷ ys) ++ i ∷ []) 0
 path_add f f' e i iz fe fi same x y [] o l n p = (p.0, p.1, (ap f' l ∙ fe, iz, fi))
 path_add f f' e i iz fe fi same x y (z ∷ zs) o l n p =
-    let d : y ≢ e = λ q. in_out y (z ∷ zs) (rw (q, ← l) (lst_in z zs)) o.0 in
+    let d : y ≢ e = λ q. in_out y (z ∷ zs) (subst (λ (t : ℕ). In t (z ∷ zs)) (l ∙ sym q) (lst_in z zs)) o.0 in
     (p.0, p.1, rw (same y d (λ q. n (inl (sym q)))) (path_add f f' e i iz fe fi same (f y) z zs o.1 l (λ j. n (inr j)) p.2))

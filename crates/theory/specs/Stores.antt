@@ -71,6 +71,7 @@ appended {m} {m'} {c} {kids} k p x pz pc xz xc h w =
 -- ---- a child's place in its parent's list
 
 pub find : (x : ℕ) (xs : List ℕ) → In x xs → (a : List ℕ) × (b : List ℕ) × (xs ≡ a ++ x ∷ b)
+find x [] x'' = elim x'' [ ]
 find x (y ∷ xs) (inl e) = ([], xs, ap (λ (z : ℕ). z ∷ xs) (sym e))
 find x (y ∷ xs) (inr i) = let t = find x xs i in (y ∷ t.0, t.1, ap (λ (l : List ℕ). y ∷ l) t.2)
 

@@ -1,0 +1,7 @@
+use Rattle.arena.specs.Links.{appended}
+use borrow.Author.Rules.{rules}
+use Rattle.arena.proofs.links.append.Goals as goal
+
+pub returns : goal.returns
+unfolding appended
+returns c = cc

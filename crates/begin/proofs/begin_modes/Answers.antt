@@ -1,0 +1,10 @@
+use mathlib.Core.Path.{◌∙◌}
+use Rattle.begin.proofs.Laws as laws
+use borrow.Author.Rules.{rules}
+use Rattle.begin.proofs.begin_modes.Goals as goal
+
+pub returns-then-is_template_context : goal.returns-then-is_template_context
+returns-then-is_template_context c = c.put_first.ensures ∙ laws.begin_modes_one _ c.is_template_context.ensures _ c.if-is_template_context.true
+
+pub returns-else-is_template_context : goal.returns-else-is_template_context
+returns-else-is_template_context c = laws.begin_modes_none _ c.is_template_context.ensures _ c.if-is_template_context.false

@@ -1,0 +1,7 @@
+use Rattle.standard.specs.Begin.{begin_nodes}
+use borrow.Author.Rules.{rules}
+use Rattle.begin.proofs.begin_nodes.Goals as goal
+
+pub returns : goal.returns
+unfolding begin_nodes
+returns c = cc

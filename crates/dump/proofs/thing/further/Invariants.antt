@@ -1,0 +1,17 @@
+use mathlib.Core.Path.{◌≡◌, refl, ap}
+use mathlib.Core.List.{List}
+use Prim.Native.Nat.{ℕ}
+use lib.ListN.{length}
+use borrow.Author.Rules.{rules}
+use Rattle.names.specs.Text.{text}
+use Rattle.dump.specs.Line.{text_number, further}
+use Rattle.dump.specs.Written.{Wrote}
+use Rattle.dump.proofs.WrittenLaws.{and_then, wrote_as}
+use Rattle.dump.proofs.LineLaws.{further_step, further_none, further_end}
+use Rattle.dump.proofs.thing.further.Given as goal
+
+abbrev pub invariant-loop-left : goal.invariant-loop-left
+invariant-loop-left l = (length l.out ≡ length l.initial.out) × ((e : List ℕ) (r : ℕ) → Wrote l.out l.place (further l.pieces l.left l.piece) e r → Wrote l.initial.out l.at (further l.pieces l.k l.i) e r)
+
+abbrev pub decreases-loop-left : goal.decreases-loop-left
+decreases-loop-left l = l.left

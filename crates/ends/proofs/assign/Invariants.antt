@@ -1,0 +1,27 @@
+use borrow.Author.Tests.{eqb-true, eqb-false, not-true, not-false}
+use Rattle.lent.specs.Mem.{up}
+use mathlib.Core.Path.{◌≡◌, refl, sym, ◌∙◌}
+use mathlib.Core.Logic.{◌≢◌}
+use mathlib.Core.List.{List}
+use Prim.Native.Nat.{ℕ, ◌≤◌, ◌<◌, ◌+◌, ◌-◌}
+use native.Mathlib.Decide.{ℕ_discrete}
+use native.Mathlib.Omega.{arith}
+use lib.ListN.{length, set, length-set}
+use Rattle.theory.specs.Fn.{at}
+use Rattle.theory.specs.Depth.{InRange, Ends, depth, deeper, right_set, known_set, known_new}
+use Rattle.ends.specs.Say.{Better}
+use Rattle.ends.proofs.assign.Given as goal
+
+pub record Going (up : ℕ → ℕ) (dep₀ dep : List ℕ) (c x k d z e : ℕ) : Type 0 where
+  pub used : z ≤ c
+  pub left : e ≤ k
+  pub better : Better up dep₀ dep c
+  pub way : Ends up c → depth up c z ≡ e + d
+  pub start : e ≡ k → z ≡ x
+  pub known : e < k → at dep x ≢ 0
+
+abbrev pub invariant-loop-e : goal.invariant-loop-e
+invariant-loop-e l = Going (up l.mem) l.initial.dep l.dep l.c l.x l.k l.d l.z l.e
+
+abbrev pub decreases-loop-e : goal.decreases-loop-e
+decreases-loop-e l = l.e

@@ -1,0 +1,19 @@
+use mathlib.Core.Path.{◌≡◌, refl}
+use Prim.Native.Nat.{◌≤◌, ◌+◌, ◌-◌}
+use native.Mathlib.Omega.{arith}
+use borrow.Author.Tests.{eqb-true, eqb-false, not-true, not-false}
+use Rattle.lent.specs.Mem.{up}
+use Rattle.theory.specs.Depth.{Ends, depth, deeper}
+use Rattle.ends.proofs.climb.Goals as goal
+
+pub loop-k-preserved : goal.loop-k-preserved
+loop-k-preserved c = let a = c.loop-k in
+    let t = c.loop-k-test.true in
+    let g = c.requires.given in
+    let ne = c.if-y-ne0.true in
+    rw c.up-y.ensures.0 (
+      g.range.le a.y (omega arith) a.invariant.0,
+      omega arith,
+      λ e. omega (arith, a.invariant.2 e, deeper g.range e a.y (omega arith) a.invariant.0),
+      λ h. absurd (omega arith),
+    )

@@ -1,0 +1,24 @@
+use mathlib.Core.Path.{◌≡◌, refl, sym, ◌∙◌}
+use mathlib.Core.Logic.{◌≢◌}
+use mathlib.Core.List.{List}
+use Prim.Native.Nat.{ℕ, ◌≤◌, ◌<◌, ◌+◌, ◌-◌}
+use native.Mathlib.Decide.{ℕ_discrete, dec_lt}
+use native.Mathlib.Omega.{arith}
+use Rattle.theory.specs.Fn.{at}
+use Rattle.lent.specs.Mem.{up}
+use Rattle.theory.specs.Says.{f≢}
+use Rattle.theory.specs.Depth.{Ends, Right, depth, depth_le, depth_zero, right_zero}
+use Rattle.ends.specs.Say.{Given, Climbed, Assigned, Better}
+use Rattle.ends.proofs.fill.Given as goal
+
+pub record Filling (up : ℕ → ℕ) (dep₀ dep : List ℕ) (c x : ℕ) : Type 0 where
+  pub low : 0 < x
+  pub high : x ≤ c + 1
+  pub better : Better up dep₀ dep c
+  pub known : (n : ℕ) → 0 < n → n < x → at dep n ≢ 0
+
+abbrev pub invariant-loop-x : goal.invariant-loop-x
+invariant-loop-x l = Filling (up l.mem) l.initial.dep l.dep l.c l.x
+
+abbrev pub decreases-loop-x : goal.decreases-loop-x
+decreases-loop-x l = l.c + 1 - l.x

@@ -1,0 +1,18 @@
+use Rattle.lent.specs.Mem.{up}
+use mathlib.Core.Path.{◌≡◌, sym}
+use mathlib.Core.Logic.{◌≢◌, ⊎_elim}
+use mathlib.Core.List.{List}
+use Prim.Native.Nat.{ℕ, ◌≤◌, ◌<◌, ◌+◌, ◌-◌}
+use native.Mathlib.Decide.{ℕ_discrete}
+use native.Mathlib.Omega.{arith}
+use Rattle.theory.specs.Fn.{at}
+use Rattle.theory.specs.Says.{f≢}
+use Rattle.theory.specs.Depth.{Ends, deeper, ranked}
+use Rattle.ends.specs.Say.{Given, Known}
+use Rattle.ends.proofs.verify.Given as goal
+
+abbrev pub invariant-loop-n : goal.invariant-loop-n
+invariant-loop-n l = (0 < l.n) × (l.n ≤ l.c + 1) × ((i : ℕ) → 0 < i → i < l.n → up l.mem i ≢ 0 → at l.dep (up l.mem i) < at l.dep i)
+
+abbrev pub decreases-loop-n : goal.decreases-loop-n
+decreases-loop-n l = l.c + 1 - l.n

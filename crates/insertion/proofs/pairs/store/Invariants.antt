@@ -1,0 +1,14 @@
+use borrow.Author.Rules.{rules}
+use Prim.Native.Nat.{◌≤◌, ◌-◌, ◌+◌}
+use mathlib.Core.Path.{◌≡◌, refl}
+use native.Mathlib.Omega.{arith}
+use lib.ListN.{length}
+use Rattle.standard.specs.Pairs.{pairs_in, stored}
+use Rattle.insertion.proofs.PairsLaws.{stored_start, stored_turn, stored_end}
+use Rattle.insertion.proofs.pairs.store.Given as goal
+
+abbrev pub invariant-loop-i : goal.invariant-loop-i
+invariant-loop-i l = (l.i ≤ l.count) × (length l.pairs ≡ length l.initial.pairs) × (stored l.initial.pairs l.used (pairs_in l.input l.from l.count) ≡ stored l.pairs (l.used + l.i) (pairs_in l.input l.at (l.count - l.i)))
+
+abbrev pub decreases-loop-i : goal.decreases-loop-i
+decreases-loop-i l = l.count - l.i

@@ -1,0 +1,11 @@
+use mathlib.Core.Path.{sym, ◌∙◌}
+use Rattle.lent.specs.Mem.{PIECES}
+use Rattle.lent.proofs.Kit.{load_below, load_past}
+use borrow.Author.Rules.{rules}
+use Rattle.lent.proofs.get_piece.Goals as goal
+
+pub returns-then-i-least : goal.returns-then-i-least
+returns-then-i-least c = c.get16.ensures ∙ sym (load_below PIECES _ _ _ c.least.ensures c.if-i-least.true)
+
+pub returns : goal.returns
+returns c = sym (load_past PIECES _ _ _ c.least.ensures c.if-i-least.false)

@@ -1,0 +1,7 @@
+use Rattle.lent.specs.Mem.{put16}
+use borrow.Author.Rules.{rules}
+use Rattle.lent.proofs.put16.Goals as goal
+
+pub returns : goal.returns
+unfolding put16
+returns c = search rules

@@ -1,0 +1,8 @@
+use Rattle.lent.specs.Room.{free_pieces}
+use Rattle.lent.specs.Mem.{slots}
+use borrow.Author.Rules.{rules}
+use Rattle.lent.proofs.room.free_pieces.Goals as goal
+
+pub returns : goal.returns
+unfolding free_pieces slots
+returns c = cc

@@ -1,0 +1,14 @@
+use mathlib.Core.Path.{◌≡◌}
+use Prim.Native.Nat.{◌≤◌, ◌+◌, ◌-◌, ◌*◌}
+use native.Mathlib.Omega.{arith}
+use lib.ListN.{length}
+use Rattle.lent.specs.Mem.{field, PARENT}
+use Rattle.theory.specs.Count.{lists, roots}
+use Rattle.links.specs.Links.{kids_of, field_of, total_step, total_none}
+use Rattle.links.proofs.total.Given as goal
+
+abbrev pub invariant-loop-x : goal.invariant-loop-x
+invariant-loop-x l = (l.x ≤ l.c) × (l.n ≤ l.x * 65536) × (l.n ≡ length (lists (kids_of l.mem l.c) l.x) + length (roots (field_of l.mem PARENT) l.x))
+
+abbrev pub decreases-loop-x : goal.decreases-loop-x
+decreases-loop-x l = l.c - l.x

@@ -1,0 +1,14 @@
+use borrow.Author.Rules.{rules}
+use Prim.Native.Nat.{◌≤◌}
+use mathlib.Core.Path.{◌≡◌, refl, sym, ◌∙◌}
+use native.Mathlib.Omega.{arith}
+use Rattle.places.specs.Places.{down, never}
+use Rattle.places.proofs.Laws.{down_none, down_hit, down_on, last_with_of}
+use Rattle.standard.specs.Place.{is_foster_stop}
+use Rattle.location.proofs.place.foster_stop.Given as goal
+
+abbrev pub invariant-loop-k : goal.invariant-loop-k
+invariant-loop-k l = (l.k ≤ l.depth) × (down (is_foster_stop l.nodes) never l.h l.depth ≡ down (is_foster_stop l.nodes) never l.h l.k)
+
+abbrev pub decreases-loop-k : goal.decreases-loop-k
+decreases-loop-k l = l.k

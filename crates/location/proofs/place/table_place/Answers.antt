@@ -1,0 +1,15 @@
+use Prim.Native.Nat.{ℕ, ◌-◌}
+use mathlib.Core.Path.{ap}
+use lib.ListN.{get_or}
+use mathlib.Core.Path.{◌∙◌, sym}
+use Rattle.places.proofs.Laws.{at_of}
+use native.Mathlib.Omega.{arith}
+use Rattle.location.proofs.Laws as laws
+use borrow.Author.Rules.{rules}
+use Rattle.location.proofs.place.table_place.Goals as goal
+
+pub returns-then-get-eq-NONE : goal.returns-then-get-eq-NONE
+returns-then-get-eq-NONE c = c.end_of.ensures ∙ laws.table_loose _ _ _ (sym (at_of _ _ _ (omega arith))) c.get.ensures c.if-get-eq-NONE.true (ap (λ (i : ℕ). get_or c.args.h.now i 0) c.previous-up.ensures ∙ sym (at_of c.args.h.now c.args.depth (c.args.i - 1) (omega arith)))
+
+pub returns : goal.returns
+returns c = c.before_table.ensures ∙ laws.table_parent _ _ _ (sym (at_of _ _ _ (omega arith))) c.get.ensures c.if-get-eq-NONE.false

@@ -1,0 +1,12 @@
+use mathlib.Core.Path.{◌∙◌, sym}
+use Rattle.places.proofs.Laws.{at_of}
+use native.Mathlib.Omega.{arith}
+use Rattle.location.proofs.Laws as laws
+use borrow.Author.Rules.{rules}
+use Rattle.location.proofs.place.template_or_table.Goals as goal
+
+pub returns-then-is_html : goal.returns-then-is_html
+returns-then-is_html c = c.end_of.ensures ∙ laws.is_template_lem _ _ _ (sym (at_of _ _ _ (omega arith))) c.is_html.ensures c.if-is_html.true
+
+pub returns : goal.returns
+returns c = c.table_place.ensures ∙ laws.is_table _ _ _ (sym (at_of _ _ _ (omega arith))) c.is_html.ensures c.if-is_html.false

@@ -1,0 +1,7 @@
+use Rattle.makers.specs.Make.{copied}
+use borrow.Author.Rules.{rules}
+use Rattle.makers.proofs.make.copy_element.Goals as goal
+
+pub returns : goal.returns
+unfolding copied
+returns c = cc

@@ -1,0 +1,7 @@
+use Rattle.makers.specs.Make.{bare}
+use borrow.Author.Rules.{rules}
+use Rattle.makers.proofs.make.make_bare.Goals as goal
+
+pub returns : goal.returns
+unfolding bare
+returns c = cc

@@ -1,0 +1,7 @@
+use Rattle.makers.specs.Make.{document}
+use borrow.Author.Rules.{rules}
+use Rattle.makers.proofs.make.make_document.Goals as goal
+
+pub returns : goal.returns
+unfolding document
+returns c = cc

@@ -1,0 +1,7 @@
+use Rattle.makers.specs.Make.{pair}
+use borrow.Author.Rules.{rules}
+use Rattle.makers.proofs.make.make_pair.Goals as goal
+
+pub returns : goal.returns
+unfolding pair
+returns c = cc

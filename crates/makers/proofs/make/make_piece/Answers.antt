@@ -1,0 +1,7 @@
+use Rattle.makers.specs.Make.{piece}
+use borrow.Author.Rules.{rules}
+use Rattle.makers.proofs.make.make_piece.Goals as goal
+
+pub returns : goal.returns
+unfolding piece
+returns c = cc

@@ -1,0 +1,7 @@
+use Rattle.makers.specs.Make.{plain}
+use borrow.Author.Rules.{rules}
+use Rattle.makers.proofs.make.make_plain.Goals as goal
+
+pub returns : goal.returns
+unfolding plain
+returns c = cc

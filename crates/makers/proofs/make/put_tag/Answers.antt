@@ -1,0 +1,7 @@
+use Rattle.makers.specs.Make.{tagged}
+use borrow.Author.Rules.{rules}
+use Rattle.makers.proofs.make.put_tag.Goals as goal
+
+pub returns : goal.returns
+unfolding tagged
+returns c = cc

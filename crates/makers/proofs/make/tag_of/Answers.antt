@@ -1,0 +1,7 @@
+use Rattle.makers.specs.Make.{tag_of}
+use borrow.Author.Rules.{rules}
+use Rattle.makers.proofs.make.tag_of.Goals as goal
+
+pub returns : goal.returns
+unfolding tag_of
+returns c = cc

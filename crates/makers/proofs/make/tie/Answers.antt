@@ -1,0 +1,7 @@
+use Rattle.makers.specs.Make.{tied}
+use borrow.Author.Rules.{rules}
+use Rattle.makers.proofs.make.tie.Goals as goal
+
+pub returns : goal.returns
+unfolding tied
+returns c = cc

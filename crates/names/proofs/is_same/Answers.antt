@@ -1,0 +1,15 @@
+use mathlib.Core.Path.{◌≡◌, refl, sym, ◌∙◌}
+use Prim.Native.Nat.{◌-◌, ◌≤◌}
+use native.Mathlib.Numerals.{add-one}
+use native.Mathlib.Omega.{arith}
+use lib.ListN.{length, drop}
+use borrow.Author.Rules.{rules}
+use Rattle.names.specs.Text.{same}
+use Rattle.names.proofs.Find.{bytes_differ, bytes_equal, ended_right, ended_left}
+use Rattle.names.proofs.is_same.Goals as goal
+
+pub returns-then-b-i : goal.returns-then-b-i
+returns-then-b-i c = sym (c.loop-i.invariant.2 ∙ ended_right c.args.a.now c.args.b.now c.loop-i.i (omega arith) (omega arith))
+
+pub returns : goal.returns
+returns c = sym (c.loop-i.invariant.2 ∙ ended_left c.args.a.now c.args.b.now c.loop-i.i (omega arith))

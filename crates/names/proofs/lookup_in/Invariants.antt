@@ -1,0 +1,17 @@
+use mathlib.Core.Path.{◌≡◌, refl, sym, ◌∙◌, ap}
+use Prim.Native.Nat.{◌-◌, ◌≤◌}
+use native.Mathlib.Numerals.{add-one}
+use native.Mathlib.Omega.{arith}
+use lib.ListN.{drop}
+use borrow.Author.Rules.{rules}
+use Rattle.names.specs.Text.{same}
+use Rattle.names.specs.Table.{limit}
+use Rattle.names.specs.Numbers.{rows, bytes_of, place, number_of}
+use Rattle.names.proofs.Find.{scan_hit, scan_miss, scan_past}
+use Rattle.names.proofs.lookup_in.Given as goal
+
+abbrev pub invariant-loop-n : goal.invariant-loop-n
+invariant-loop-n l = (l.n ≤ limit) × (number_of l.b ≡ place l.b l.n (drop l.n rows))
+
+abbrev pub decreases-loop-n : goal.decreases-loop-n
+decreases-loop-n l = limit - l.n

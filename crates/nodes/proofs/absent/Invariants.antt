@@ -1,0 +1,13 @@
+use mathlib.Core.Path.{sym, ◌∙◌}
+use mathlib.Core.Logic.{◌≢◌}
+use Prim.Native.Nat.{ℕ, ◌≤◌, ◌<◌, ◌+◌, ◌-◌}
+use native.Mathlib.Omega.{arith}
+use Rattle.theory.specs.Says.{says_yes, says_no, below}
+use Rattle.nodes.specs.Nodes.{name_of}
+use Rattle.nodes.proofs.absent.Given as goal
+
+abbrev pub invariant-loop-j : goal.invariant-loop-j
+invariant-loop-j l = (l.j ≤ l.i) × ((h : ℕ) → h < l.j → name_of l.pairs (l.s + h) ≢ name_of l.pairs (l.s + l.i))
+
+abbrev pub decreases-loop-j : goal.decreases-loop-j
+decreases-loop-j l = l.i - l.j

@@ -1,0 +1,13 @@
+use mathlib.Core.Path.{◌≡◌, sym, ◌∙◌}
+use Prim.Native.Nat.{ℕ, ◌+◌, ◌≤◌, ◌<◌, ◌-◌}
+use native.Mathlib.Decide.{ℕ_discrete}
+use native.Mathlib.Omega.{arith}
+use Rattle.lent.specs.Mem.{field}
+use Rattle.theory.specs.Says.{says_yes, says_no}
+use Rattle.nodes.proofs.clear.Given as goal
+
+abbrev pub invariant-loop-f : goal.invariant-loop-f
+invariant-loop-f l = (l.a ≤ l.f) × (l.f ≤ l.b) × ((g : ℕ) → l.a ≤ g → g < l.f → field l.mem l.x g ≡ 0)
+
+abbrev pub decreases-loop-f : goal.decreases-loop-f
+decreases-loop-f l = l.b - l.f

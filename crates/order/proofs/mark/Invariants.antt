@@ -1,0 +1,14 @@
+use mathlib.Core.Path.{◌≡◌, refl, ap, ◌∙◌}
+use Prim.Native.Nat.{ℕ, suc, ◌≤◌}
+use native.Mathlib.Omega.{arith}
+use lib.ListN.{length, length-set}
+use Rattle.lent.specs.Mem.{up}
+use Rattle.theory.specs.Depth.{depth, deeper}
+use Rattle.theory.specs.Nearest.{Memo, memo_set}
+use Rattle.order.proofs.mark.Given as goal
+
+abbrev pub invariant-loop-z : goal.invariant-loop-z
+invariant-loop-z l = (l.z ≤ l.c) × (length l.near ≡ length l.initial.near) × ((nr : ℕ → ℕ) → Memo (up l.mem) l.c nr l.initial.near → l.v ≡ suc (nr l.x) → Memo (up l.mem) l.c nr l.near × (l.v ≡ suc (nr l.z)))
+
+abbrev pub decreases-loop-z : goal.decreases-loop-z
+decreases-loop-z l = depth (up l.mem) l.c l.z

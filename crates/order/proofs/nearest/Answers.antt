@@ -1,0 +1,31 @@
+use mathlib.Core.Path.{◌≡◌, refl, sym, ap, ◌∙◌}
+use Prim.Native.Nat.{ℕ, suc, ◌≤◌}
+use native.Mathlib.Omega.{arith}
+use Rattle.lent.specs.Mem.{up}
+use Rattle.theory.specs.Depth.{depth, deeper}
+use Rattle.theory.specs.Nearest.{Memo}
+use Rattle.order.proofs.nearest.Goals as goal
+
+pub returns-then-v-ne0 : goal.returns-then-v-ne0
+returns-then-v-ne0 c = let a = c.loop-y in
+    record {
+      fits = omega (arith, c.shared_slice_known-in-loop-y-1.given a.y);
+      is = λ nr m. m.right a.y (omega arith) a.invariant.0 c.if-v-ne0.true ∙ ap suc (sym (a.invariant.1 nr m));
+    }
+
+pub loop-y-smaller : goal.loop-y-smaller
+loop-y-smaller c = let a = c.loop-y in
+    let g = c.requires.given in
+    rw c.up-y.ensures.0 (omega (arith, deeper g.range g.ends a.y (omega arith) a.invariant.0))
+
+pub loop-y-preserved : goal.loop-y-preserved
+loop-y-preserved c = let a = c.loop-y in
+    let g = c.requires.given in
+    rw c.up-y.ensures.0 (
+      g.range.le a.y (omega arith) a.invariant.0,
+      λ nr m. a.invariant.1 nr m ∙ m.shut a.y (omega arith) a.invariant.0 c.if-v-ne0.false,
+    )
+
+pub returns : goal.returns
+returns c = let a = c.loop-y in
+    record { fits = omega arith; is = λ nr m. ap suc (sym (a.invariant.1 nr m ∙ ap nr c.loop-y-test.false ∙ m.none)) }

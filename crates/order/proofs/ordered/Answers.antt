@@ -1,0 +1,42 @@
+use Rattle.order.proofs.ordered.Invariants.{Going}
+use mathlib.Core.Path.{◌≡◌, refl, sym, ◌∙◌}
+use mathlib.Core.List.{List}
+use Prim.Native.Nat.{ℕ, ◌≤◌, ◌<◌, ◌+◌, ◌-◌}
+use native.Mathlib.Omega.{arith}
+use lib.ListN.{length}
+use Rattle.lent.specs.Mem.{up}
+use Rattle.theory.specs.Fn.{at}
+use Rattle.theory.specs.Says.{f≢, below}
+use Rattle.theory.specs.Nearest.{Memo}
+use Rattle.order.specs.Say.{Given, Found, Marked}
+use Rattle.order.proofs.ordered.Goals as goal
+
+step : {f : ℕ → ℕ} {l near₀ near near' : List ℕ} {c i p v : ℕ} → Going f l near₀ near c i → p ≡ f (at l i)
+    → Found f near c p v → v ≤ i + 1 → Marked f near near' c p v → Going f l near₀ near' c (i + 1)
+step {f} {l} {i = i} g e a h b =
+    record {
+      long = b.long ∙ g.long;
+      memo = λ nr m. b.kept nr (g.memo nr m) (a.is nr (g.memo nr m));
+      low = λ nr m. below (g.low nr m) (rw (← e) (omega (arith, a.is nr (g.memo nr m))));
+    }
+
+deny : {f : ℕ → ℕ} {l near₀ near : List ℕ} {c d i p v : ℕ} → Going f l near₀ near c i → i < d → p ≡ f (at l i)
+    → Found f near c p v → i + 1 < v → (nr : ℕ → ℕ) → Memo f c nr near₀ → ¬ ((i : ℕ) → i < d → nr (f (at l i)) ≤ i)
+deny {i = i} g l e a h nr m s = let t = rw (← e) at (s i l) in omega (arith, a.is nr (g.memo nr m))
+
+pub returns-then-v-i : goal.returns-then-v-i
+returns-then-v-i c = let a = c.loop-i in
+    record {
+      good = f≢;
+      bad = λ _.
+          deny a.invariant.1 c.loop-i-test.true
+          c.up-p.ensures.0 c.nearest-v.ensures c.if-v-i.true;
+    }
+
+pub loop-i-preserved : goal.loop-i-preserved
+loop-i-preserved c = let a = c.loop-i in (
+  omega arith,
+  step a.invariant.1 c.up-p.ensures.0
+      c.nearest-v.ensures c.if-v-i.false
+      c.mark.ensures,
+)

@@ -1,0 +1,15 @@
+use mathlib.Core.Path.{◌≡◌, refl, sym, ◌∙◌}
+use Prim.Native.Nat.{◌≤◌, ◌-◌}
+use native.Mathlib.Omega.{arith}
+use lib.ListN.{length, length-set}
+use Rattle.theory.specs.Fn.{at}
+use Rattle.theory.specs.Says.{f≢}
+use Rattle.theory.specs.Depth.{depth}
+use Rattle.theory.specs.Nearest.{Placed, placed_none, placed_set, again}
+use Rattle.order.proofs.places.Given as goal
+
+abbrev pub invariant-loop-i : goal.invariant-loop-i
+invariant-loop-i l = (l.i ≤ l.depth) × (length l.near ≡ length l.initial.near) × Placed l.c l.stack l.i l.near
+
+abbrev pub decreases-loop-i : goal.decreases-loop-i
+decreases-loop-i l = l.depth - l.i

@@ -1,0 +1,15 @@
+use Prim.Native.Nat.{ℕ, ◌≤◌, ◌-◌}
+use mathlib.Core.Path.{◌≡◌, refl, ap, ◌∙◌}
+use mathlib.Core.List.{List}
+use native.Mathlib.Omega.{arith}
+use lib.ListN.{length, set}
+use Rattle.places.specs.Places.{places_of}
+use Rattle.places.proofs.Laws.{cutting, cutting_none, cutting_more, cutting_all}
+use borrow.Author.Rules.{rules}
+use Rattle.places.proofs.cut_at.Given as goal
+
+abbrev pub invariant-loop-k : goal.invariant-loop-k
+invariant-loop-k l = (l.i ≤ l.k) × (l.k ≤ l.d) × (length l.s ≡ length l.initial.s) × (l.s ≡ cutting l.initial.s l.d l.k)
+
+abbrev pub decreases-loop-k : goal.decreases-loop-k
+decreases-loop-k l = l.k

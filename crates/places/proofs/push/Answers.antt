@@ -1,0 +1,7 @@
+use mathlib.Core.Path.{refl}
+use Rattle.places.proofs.Laws.{pushed_law}
+use borrow.Author.Rules.{rules}
+use Rattle.places.proofs.push.Goals as goal
+
+pub returns : goal.returns
+returns c = (refl, pushed_law _ _ _ c.requires)

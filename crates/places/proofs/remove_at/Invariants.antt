@@ -1,0 +1,15 @@
+use Prim.Native.Nat.{ℕ, ◌≤◌, ◌-◌, ◌+◌}
+use mathlib.Core.Path.{◌≡◌, refl, ap, ◌∙◌}
+use mathlib.Core.List.{List}
+use native.Mathlib.Omega.{arith}
+use lib.ListN.{length, get_or, set}
+use Rattle.places.specs.Places.{places_of}
+use Rattle.places.proofs.Laws.{shifted, shifted_none, shifted_more, shifted_all}
+use borrow.Author.Rules.{rules}
+use Rattle.places.proofs.remove_at.Given as goal
+
+abbrev pub invariant-loop-k : goal.invariant-loop-k
+invariant-loop-k l = (l.i ≤ l.k) × (l.k ≤ l.last) × (length l.s ≡ length l.initial.s) × (l.s ≡ shifted l.initial.s l.i l.k)
+
+abbrev pub decreases-loop-k : goal.decreases-loop-k
+decreases-loop-k l = l.last - l.k

@@ -1,0 +1,9 @@
+use mathlib.Core.Path.{refl}
+use borrow.Author.Tests.{not-true, not-false}
+use Rattle.edge.proofs.Laws.{checked_no, checked_yes}
+use Rattle.queries.proofs.QueryLaws as laws
+use borrow.Author.Rules.{rules}
+use Rattle.queries.proofs.body_elem.body_elem.Goals as goal
+
+pub returns : goal.returns
+returns c = checked_yes c.is_sound.ensures c.if-not-is_sound.false (laws.body_edge _ _ _ _ _ _ c.find.ensures c.give.ensures)

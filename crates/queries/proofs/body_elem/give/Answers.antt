@@ -1,0 +1,9 @@
+use Rattle.queries.proofs.QueryLaws as laws
+use borrow.Author.Rules.{rules}
+use Rattle.queries.proofs.body_elem.give.Goals as goal
+
+pub returns-in-At : goal.returns-in-At
+returns-in-At c = laws.body_at c.in-At.is
+
+pub returns-in-Nothing : goal.returns-in-Nothing
+returns-in-Nothing c = laws.body_none c.in-Nothing.is

@@ -1,0 +1,8 @@
+use mathlib.Core.Path.{refl}
+use Rattle.records.specs.Record.{count_of}
+use borrow.Author.Rules.{rules}
+use Rattle.records.proofs.count_of.Goals as goal
+
+pub returns : goal.returns
+unfolding count_of
+returns c = refl

@@ -1,0 +1,18 @@
+use borrow.Author.Rules.{rules}
+use Prim.Native.Nat.{◌+◌, ◌-◌, ◌<◌, ◌≤◌}
+use mathlib.Core.Path.{◌≡◌, refl}
+use native.Mathlib.Omega.{arith}
+use lib.ListN.{take, drop}
+use Rattle.names.specs.Sets.{Special}
+use Rattle.places.specs.Places.{places_of, first_of, first_with}
+use Rattle.places.proofs.Laws.{first_none}
+use Rattle.places.proofs.First.{first_turn, first_end}
+use Rattle.standard.specs.Stack.{is_of}
+use Rattle.standard.specs.Adoption.{furthest_of}
+use Rattle.rounds.proofs.search.furthest.Given as goal
+
+abbrev pub invariant-loop-k : goal.invariant-loop-k
+invariant-loop-k l = (l.s < l.k) × (l.k ≤ l.depth) × (first_with (is_of Special l.nodes) (drop (l.s + 1) (take l.depth l.h)) (l.s + 1) ≡ first_of l.found (first_with (is_of Special l.nodes) (drop l.k (take l.depth l.h)) l.k))
+
+abbrev pub decreases-loop-k : goal.decreases-loop-k
+decreases-loop-k l = l.depth - l.k

@@ -1,0 +1,15 @@
+use mathlib.Core.Path.{◌∙◌, sym}
+use native.Mathlib.Omega.{arith}
+use Rattle.places.proofs.Laws.{place_lt}
+use Rattle.small.proofs.Laws as laws
+use borrow.Author.Rules.{rules}
+use Rattle.small.proofs.cleared_to.Goals as goal
+
+pub cut_at-requires : goal.cut_at-requires
+cut_at-requires c = let lt = place_lt _ _ _ _ (omega arith) (sym c.find.ensures ∙ c.in-At.is) in (omega arith, omega arith)
+
+pub returns-in-At : goal.returns-in-At
+returns-in-At c = c.cut_at.ensures.1 ∙ laws.cleared_found _ _ c.find.ensures c.in-At.is
+
+pub returns-in-Nothing : goal.returns-in-Nothing
+returns-in-Nothing c = c.cut_at-in-Nothing.ensures.1 ∙ laws.cleared_none _ c.find.ensures c.in-Nothing.is

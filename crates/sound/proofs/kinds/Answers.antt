@@ -1,0 +1,10 @@
+use mathlib.Core.Path.{ap}
+use mathlib.Core.Bool.{not}
+use Prim.Native.Nat.{ℕ, ◌≤◌, ◌<◌, ◌+◌, ◌-◌}
+use native.Mathlib.Omega.{arith}
+use Rattle.theory.specs.Says.{says_yes, says_no, passed, failed, more}
+use Rattle.nodes.specs.Nodes.{Kind}
+use Rattle.sound.proofs.kinds.Goals as goal
+
+pub loop-x-preserved : goal.loop-x-preserved
+loop-x-preserved c = (omega arith, omega arith, more c.loop-x.invariant.2 (passed c.kind.ensures (ap not c.if-not-kind.false)))

@@ -1,0 +1,12 @@
+use mathlib.Core.Logic.{◌≢◌}
+use Prim.Native.Nat.{ℕ, ◌≤◌, ◌<◌, ◌-◌}
+use native.Mathlib.Omega.{arith}
+use Rattle.theory.specs.Fn.{at}
+use Rattle.theory.specs.Says.{says_yes, says_no, below}
+use Rattle.sound.proofs.lone.Given as goal
+
+abbrev pub invariant-loop-j : goal.invariant-loop-j
+invariant-loop-j l = (l.j ≤ l.i) × ((h : ℕ) → h < l.j → at l.list h ≢ at l.list l.i)
+
+abbrev pub decreases-loop-j : goal.decreases-loop-j
+decreases-loop-j l = l.i - l.j

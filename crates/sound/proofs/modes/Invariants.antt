@@ -1,0 +1,11 @@
+use Prim.Native.Nat.{ℕ, ◌≤◌, ◌<◌, ◌-◌}
+use native.Mathlib.Omega.{arith}
+use Rattle.theory.specs.Fn.{at}
+use Rattle.theory.specs.Says.{says_yes, says_no, below}
+use Rattle.sound.proofs.modes.Given as goal
+
+abbrev pub invariant-loop-i : goal.invariant-loop-i
+invariant-loop-i l = (l.i ≤ l.k) × ((j : ℕ) → j < l.i → (1 ≤ at l.list j) × (at l.list j ≤ 21))
+
+abbrev pub decreases-loop-i : goal.decreases-loop-i
+decreases-loop-i l = l.k - l.i

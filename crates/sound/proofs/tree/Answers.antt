@@ -1,0 +1,11 @@
+use mathlib.Core.Path.{ap}
+use mathlib.Core.Bool.{not}
+use borrow.Author.Rules.{rules}
+use Rattle.theory.specs.Says.{says_no, says_map, passed, failed}
+use Rattle.sound.proofs.Range.{in_range}
+use Rattle.sound.proofs.tree.Goals as goal
+
+pub order-requires-clause-in_range : goal.order-requires-clause-in_range
+order-requires-clause-in_range c = let k = passed c.children.ensures (ap not c.if-not-children.false) in
+    let t = passed c.kinds.ensures (ap not c.if-not-kinds.false) in
+    in_range k t

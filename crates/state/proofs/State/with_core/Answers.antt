@@ -1,0 +1,7 @@
+use borrow.Author.Rules.{rules}
+use Rattle.state.specs.Fields.{state_of}
+use Rattle.state.proofs.State.with_core.Goals as goal
+
+pub returns : goal.returns
+unfolding state_of
+returns c = search rules

@@ -1,0 +1,15 @@
+use mathlib.Core.Path.{◌≡◌, refl}
+use mathlib.Core.List.{List}
+use Prim.Native.Nat.{ℕ, ◌<◌, ◌+◌, ◌-◌}
+use native.Mathlib.Omega.{arith}
+use lib.ListN.{length}
+use Rattle.texts.specs.Texts.{after}
+use Rattle.texts.specs.Pieces.{Met, Unmet, met_none, met_few, met_more, deny_far, deny_seen, deny_last, deny_none}
+use Rattle.texts.specs.Say.{Chained}
+use Rattle.texts.proofs.chain.Given as goal
+
+abbrev pub invariant-loop-y : goal.invariant-loop-y
+invariant-loop-y l = (l.y < 65536) × Met (after l.pieces) l.initial.seen l.seen l.u l.x l.y l.l l.k
+
+abbrev pub decreases-loop-y : goal.decreases-loop-y
+decreases-loop-y l = l.u + 1 - l.k
