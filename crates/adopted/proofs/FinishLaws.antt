@@ -1,10 +1,6 @@
 -- Steps 4.14 to 4.19, and all from 4.9 on, as the code meets them, for any part of the state that it is not lent.
 -- Assumes nothing.
-use Prim.Native.Nat.{ℕ, ◌+◌, ◌-◌, ◌<◌}
-use mathlib.Core.Path.{◌≡◌, refl, ◌∙◌}
-use mathlib.Core.List.{List}
-use native.Mathlib.Omega.{arith}
-use lib.ListN.{length, get_or}
+use Rattle.std.proofs.Common.{ℕ, ◌+◌, ◌-◌, ◌<◌, ◌≡◌, refl, ◌∙◌, List, arith, length, get_or}
 use Rattle.lent.specs.declared.Node.{Node}
 use Rattle.arena.specs.Links.{appended, detached, moved}
 use Rattle.makers.specs.Make.{copied}

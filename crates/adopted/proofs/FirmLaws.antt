@@ -1,13 +1,6 @@
 -- What the adoption agency relies on (`specs/Firm.antt`) holds after a round too, for one round less.
 -- Assumes nothing.
-use Prim.Native.Nat.{ℕ, zero, suc, ◌+◌, ◌*◌, ◌≤◌, ◌<◌}
-use mathlib.Core.Path.{◌≡◌, refl}
-use mathlib.Core.Logic.{◌⊎◌, inl, inr}
-use mathlib.Core.Bool.{Bool, true, false, cond}
-use mathlib.Core.List.{List, ◌++◌}
-use native.Mathlib.Omega.{arith}
-use lib.Dec.{eqb, ltb}
-use lib.ListN.{length, take, drop, length-append, length-take, length-drop, length-set}
+use Rattle.std.proofs.Common.{ℕ, zero, suc, ◌+◌, ◌*◌, ◌≤◌, ◌<◌, ◌≡◌, refl, ◌⊎◌, inl, inr, Bool, true, false, cond, List, ◌++◌, arith, eqb, ltb, length, take, drop, length-append, length-take, length-drop, length-set}
 use Rattle.names.specs.Sets.{DefaultScope, Special}
 use Rattle.places.specs.Places.{Places, at, same, without, swapped, place_of, exchanged}
 use Rattle.places.specs.declared.Found.{Found}

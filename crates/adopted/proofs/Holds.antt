@@ -1,15 +1,9 @@
 -- What every entry of some places has: each operation keeps the places whole, and keeps it, if the entry that comes in has it.
 -- Assumes nothing.
-use Prim.Native.Nat.{ℕ, zero, suc, ◌+◌, ◌-◌, ◌≤◌, ◌<◌}
-use mathlib.Core.Path.{◌≡◌, refl, ap, sym, ◌∙◌, subst}
-use mathlib.Core.Bool.{Bool, true, false}
-use mathlib.Core.List.{List, ◌∷◌, ◌++◌}
-use native.Mathlib.Omega.{arith}
-use native.Mathlib.Decide.{dec_lt}
-use lib.Dec.{eqb}
-use lib.ListN.{length, get_or, take, drop, set, length-append, length-take, length-drop, length-set, get_or-append}
-use lib.Seq.{get_or-append-add, get_or-drop, get_or-take, get_or-set_same, get_or-set_other, length-take-le}
-use borrow.Author.Tests.{eqb-true, eqb-false}
+use Rattle.std.proofs.Common.{ℕ, zero, suc, ◌+◌, ◌-◌, ◌≤◌, ◌<◌, ◌≡◌, refl, ap, sym, ◌∙◌, subst, Bool, true, false, List, ◌∷◌, ◌++◌, arith, eqb, length, get_or, take, drop, set, length-append, length-take, length-drop, length-set, get_or-append-add, get_or-drop, get_or-take, get_or-set_same, get_or-set_other, length-take-le, eqb-true}
+use Rattle.std.proofs.Math.Decide.{dec_lt}
+use Rattle.std.proofs.Math.ListN.{get_or-append}
+use Rattle.std.proofs.lemmas.Bool.{eqb-false}
 use Rattle.names.specs.Sets.{Special}
 use Rattle.places.specs.Places.{Places, Whole, without, within, swapped, cut, place_of, after_at, exchanged_at, exchanged}
 use Rattle.places.specs.declared.Found.{Found}

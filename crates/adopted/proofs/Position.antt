@@ -1,17 +1,11 @@
 -- Where an entry of the list stands, as a position moves: when another entry leaves, when one is put in its place; and that the code's
 -- two bookmarks are such positions.
 -- Assumes nothing.
-use Prim.Native.Nat.{ℕ, zero, suc, ◌+◌, ◌-◌, ◌≤◌, ◌<◌}
-use mathlib.Core.Path.{◌≡◌, refl, ap, sym, ◌∙◌}
-use mathlib.Core.Bool.{Bool, true, false, cond}
-use mathlib.Core.List.{List, ◌++◌}
-use native.Mathlib.Omega.{arith}
-use native.Mathlib.Decide.{dec_lt}
-use native.Mathlib.Numerals.{add-one}
-use lib.Dec.{eqb, ltb}
-use lib.ListN.{length, get_or, take, drop, set, length-append, length-take, length-drop, length-set, get_or-append}
-use lib.Seq.{take_at, drop_at, set_split, length-take-le, get_or-append-add, get_or-drop, get_or-take, get_or-set_same, get_or-set_other}
-use borrow.Author.Tests.{eqb-true, eqb-false, lt-ltb, le-ltb, ltb-true, ltb-false}
+use Rattle.std.proofs.Common.{ℕ, zero, suc, ◌+◌, ◌-◌, ◌≤◌, ◌<◌, ◌≡◌, refl, ap, sym, ◌∙◌, Bool, true, false, cond, List, ◌++◌, arith, add-one, eqb, ltb, length, get_or, take, drop, set, length-append, length-take, length-drop, length-set, take_at, drop_at, length-take-le, get_or-append-add, get_or-drop, get_or-take, get_or-set_same, get_or-set_other, eqb-true, lt-ltb, le-ltb, ltb-true, ltb-false}
+use Rattle.std.proofs.Math.Decide.{dec_lt}
+use Rattle.std.proofs.Math.ListN.{get_or-append}
+use Rattle.std.proofs.Math.Seq.{set_split}
+use Rattle.std.proofs.lemmas.Bool.{eqb-false}
 use Rattle.places.specs.Places.{Places, Whole, at, without, within, swapped, place_of, last_with, down, same, never, exchanged, renamed}
 use Rattle.places.specs.declared.Found.TheVariants.{At}
 use Rattle.places.proofs.Laws.{Last, last_found, last_same, places_eq, renamed_at_lem, after_at_lem, exchanged_at_lem}

@@ -2,16 +2,8 @@
 -- the same state. The two bookmarks stay at one place: the code's is the formatting element, or a node made in the loop, and a node
 -- that the loop meets is neither.
 -- Assumes nothing.
-use Prim.Native.Nat.{ℕ, zero, suc, ◌+◌, ◌-◌, ◌≤◌, ◌<◌}
-use mathlib.Core.Path.{◌≡◌, refl, ap, sym, ◌∙◌}
-use mathlib.Core.Bool.{Bool, true, false, cond}
-use mathlib.Core.Logic.{inl, inr}
-use mathlib.Core.List.{List}
-use native.Mathlib.Omega.{arith}
-use lib.Dec.{eqb, ltb}
-use lib.ListN.{length, get_or}
-use lib.Seq.{get_or-set_other}
-use borrow.Author.Tests.{eq-eqb, ne_eqb, eqb-true, eqb-false, ltb-false}
+use Rattle.std.proofs.Common.{ℕ, zero, suc, ◌+◌, ◌-◌, ◌≤◌, ◌<◌, ◌≡◌, refl, ap, sym, ◌∙◌, Bool, true, false, cond, inl, inr, List, arith, eqb, ltb, length, get_or, get_or-set_other, eq-eqb, ne_eqb, eqb-true, ltb-false}
+use Rattle.std.proofs.lemmas.Bool.{eqb-false}
 use Rattle.places.specs.Places.{Places, Whole, at, same, without, swapped, place_of, exchanged, renamed}
 use Rattle.places.specs.declared.Found.{Found}
 use Rattle.places.specs.declared.Found.TheVariants.{At, Nothing}

@@ -1,11 +1,6 @@
 -- Ancestors after each operation. Going up leads from contents to their template, else to the parent.
 -- Assumes nothing.
-use Prim.Native.Nat.{ℕ, ◌≤◌, ◌<◌}
-use mathlib.Core.Path.{◌≡◌, refl, sym, ◌∙◌}
-use mathlib.Core.Logic.{◌≢◌, ◌⊎◌, ◌↔◌}
-use mathlib.Core.List.{List, ◌∷◌, ◌++◌}
-use native.Mathlib.Omega.{arith}
-use borrow.Author.Tests.{eq-eqb, ne_eqb}
+use Rattle.std.proofs.Common.{ℕ, ◌≤◌, ◌<◌, ◌≡◌, refl, sym, ◌∙◌, ◌≢◌, ◌⊎◌, ◌↔◌, List, ◌∷◌, ◌++◌, arith, eq-eqb, ne_eqb}
 use Rattle.theory.specs.Fn.{Upd}
 use Rattle.theory.specs.Natural.{Anc}
 use Rattle.theory.specs.Anc as anc

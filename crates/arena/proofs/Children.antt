@@ -1,17 +1,8 @@
 -- The operations on links, on lists of children: `Forest m c kids` says that the nodes 1 to c of the memory m have the children `kids`.
 -- After append, insert before, detach and move, the lists of the nodes concerned change as the names say, and no other list does.
 -- Assumes nothing.
-use Rattle.std.proofs.Math.Path.{subst}
-use Prim.Native.Nat.{ℕ, ◌≤◌, ◌<◌}
-use mathlib.Core.Path.{◌≡◌, refl, sym, ap, ◌∙◌}
-use mathlib.Core.Logic.{◌≢◌, ◌⊎◌, inl, inr}
-use mathlib.Core.Bool.{true}
-use mathlib.Core.List.{List, [], ◌∷◌, ◌++◌, append-nil}
-use native.Mathlib.Omega.{arith}
-use native.Mathlib.Decide.{ℕ_discrete}
-use native.Mathlib.Nat.{lt_irrefl}
-use lib.ListN.{length}
-use borrow.Author.Tests.{lt-ltb}
+use Rattle.std.proofs.Common.{subst, ℕ, ◌≤◌, ◌<◌, ◌≡◌, refl, sym, ap, ◌∙◌, ◌≢◌, ◌⊎◌, inl, inr, true, List, [], ◌∷◌, ◌++◌, append-nil, arith, lt_irrefl, length, lt-ltb}
+use Rattle.std.proofs.Math.Decide.{ℕ_discrete}
 use Rattle.theory.specs.Fn.{In, Upd, put, put_upd}
 use Rattle.theory.specs.Kids as kids
 use Rattle.theory.specs.Kids.{hd, lst, Run, Kids, run_in, run_part, lst_or, hd_or}

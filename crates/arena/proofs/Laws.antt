@@ -1,11 +1,6 @@
 -- The cases of the definitions that branch, as the code meets them: x is the number that was read, and e says what it is.
 -- Assumes nothing.
-use Prim.Native.Nat.{ℕ, zero, suc, ◌-◌, ◌<◌, ◌≤◌}
-use mathlib.Core.Path.{◌≡◌, refl, ◌∙◌}
-use mathlib.Core.List.{List}
-use borrow.Author.Tests.{eq-eqb, ne_eqb}
-use native.Mathlib.Omega.{arith}
-use native.Mathlib.Numerals.{sub-one}
+use Rattle.std.proofs.Common.{ℕ, zero, suc, ◌-◌, ◌<◌, ◌≤◌, ◌≡◌, refl, ◌∙◌, List, eq-eqb, ne_eqb, arith, sub-one}
 use Rattle.lent.specs.Mem.{field, put_field, PARENT, PREV, NEXT, FIRST, LAST}
 use Rattle.arena.specs.Links.{detached, unlinked, reparented, moved, spliced}
 

@@ -1,11 +1,6 @@
 -- No operation changes how much is lent, and so how many nodes there can be.
 -- Assumes nothing.
-use Prim.Native.Nat.{ℕ, zero, suc}
-use mathlib.Core.Path.{◌≡◌, refl, ◌∙◌}
-use mathlib.Core.Bool.{Bool, true, false, cond}
-use mathlib.Core.List.{List}
-use lib.ListN.{length}
-use lib.Dec.{eqb}
+use Rattle.std.proofs.Common.{ℕ, zero, suc, ◌≡◌, refl, ◌∙◌, Bool, true, false, cond, List, length, eqb}
 use Rattle.lent.specs.Mem.{NODES, slots, field, put_field, PARENT, PREV, NEXT, FIRST, LAST}
 use Rattle.lent.proofs.Kit.{length_store, length_link}
 use Rattle.arena.specs.Links.{appended, detached, unlinked, inserted, reparented, spliced, moved}

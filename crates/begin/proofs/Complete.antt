@@ -1,8 +1,6 @@
 -- The promise of `begin` allows one result_of only: answer, record, nodes and modes.
 -- Assumes nothing.
-use Prim.Native.Nat.{ℕ}
-use mathlib.Core.Path.{◌≡◌, ap, sym, ◌∙◌}
-use mathlib.Core.List.{List}
+use Rattle.std.proofs.Common.{ℕ, ◌≡◌, ap, sym, ◌∙◌, List}
 use Rattle.state.specs.declared.State.{State}
 use Rattle.standard.specs.Begin.{Begun, begun}
 

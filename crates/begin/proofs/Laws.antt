@@ -1,13 +1,6 @@
 -- The cases of begin, as the code meets them.
 -- Assumes nothing.
-use Prim.Native.Nat.{ℕ, ◌<◌, ◌≤◌, min}
-use mathlib.Core.Path.{◌≡◌, refl, sym, ◌∙◌}
-use mathlib.Core.Bool.{Bool, true, false, not}
-use mathlib.Core.List.{List, [], ◌∷◌}
-use native.Mathlib.Nat.{not-suc-le-zero}
-use lib.ListN.{length, set}
-use lib.Dec.{eqb}
-use borrow.Author.Tests.{lt-ltb, le-ltb, eq-eqb, ne_eqb}
+use Rattle.std.proofs.Common.{ℕ, ◌<◌, ◌≤◌, min, ◌≡◌, refl, sym, ◌∙◌, Bool, true, false, not, List, [], ◌∷◌, not-suc-le-zero, length, set, eqb, lt-ltb, le-ltb, eq-eqb, ne_eqb}
 use Rattle.names.specs.Numbers.{is_name}
 use Rattle.names.specs.Space as space
 use Rattle.names.specs.Tag as tag

@@ -1,8 +1,6 @@
 -- The promises of `run` and `call` allow one result_of only: answer, record and every lent slice.
 -- Assumes nothing.
-use Prim.Native.Nat.{ℕ, ◌-◌}
-use mathlib.Core.Path.{◌≡◌, ap, sym, ◌∙◌}
-use mathlib.Core.List.{List}
+use Rattle.std.proofs.Common.{ℕ, ◌-◌, ◌≡◌, ap, sym, ◌∙◌, List}
 use Rattle.state.specs.declared.State.{State}
 use Rattle.state.specs.Full.{Result, result_of}
 use Rattle.standard.specs.Run.{Ran, ran}

@@ -1,8 +1,7 @@
 -- A row that is right says what the code does: the promises of `run` and of `reset_insertion_mode`, from the row's begin on, allow what
 -- the row shows, and nothing else.
 -- Assumes nothing.
-use mathlib.Core.Path.{◌≡◌, refl, ap, ◌∙◌}
-use mathlib.Core.Bool.{true}
+use Rattle.std.proofs.Common.{◌≡◌, refl, ap, ◌∙◌, true}
 use Rattle.theory.specs.Says.{says_yes}
 use Rattle.sound.specs.State.{SoundFull}
 use Rattle.standard.specs.Begin.{begin_state}

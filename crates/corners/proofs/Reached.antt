@@ -1,7 +1,6 @@
 -- The most nodes that an adoption takes are reached.
 -- Assumes nothing.
-use Prim.Native.Nat.{◌+◌}
-use mathlib.Core.Path.{◌≡◌, refl}
+use Rattle.std.proofs.Common.{◌+◌, ◌≡◌, refl}
 use Rattle.names.specs.Sets.{formatting, special, default_scope, foster_targets}
 use Rattle.names.specs.Numbers.{in_table, is_name}
 use Rattle.names.specs.Table.{names}

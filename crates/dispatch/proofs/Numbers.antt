@@ -1,9 +1,6 @@
 -- The call that each number stands for.
 -- Assumes nothing.
-use Prim.Native.Nat.{ℕ, ◌<◌, ◌≤◌}
-use mathlib.Core.Path.{◌≡◌}
-use mathlib.Core.List.{List}
-use borrow.Author.Tests.{ne_eqb, lt-ltb, le-ltb}
+use Rattle.std.proofs.Common.{ℕ, ◌<◌, ◌≤◌, ◌≡◌, List, ne_eqb, lt-ltb, le-ltb}
 use Rattle.records.specs.declared.Record.{Record}
 use Rattle.state.specs.Full.{Full, Result, refused}
 use Rattle.standard.specs.Insertion.{inserted_element, inserted_text, inserted_comment}

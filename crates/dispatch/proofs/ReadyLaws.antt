@@ -1,10 +1,6 @@
 -- A ready state has what the adoption agency relies on.
 -- Assumes nothing.
-use Prim.Native.Nat.{ℕ, ◌≤◌, ◌<◌}
-use mathlib.Core.List.{List}
-use native.Mathlib.Omega.{arith}
-use lib.ListN.{length}
-use lib.Seq.{get_or-take, length-take-le}
+use Rattle.std.proofs.Common.{ℕ, ◌≤◌, ◌<◌, List, arith, length, get_or-take, length-take-le}
 use Rattle.places.specs.Places.{places_of}
 use Rattle.places.proofs.Laws.{whole_of}
 use Rattle.state.specs.declared.Core.{Core}

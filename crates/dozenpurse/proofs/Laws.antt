@@ -1,12 +1,6 @@
 -- From the promises of `begin` and `run` to what the program prints. The begin is done: there are nodes for it.
 -- Assumes nothing.
-use Prim.Native.Nat.{ℕ, min}
-use mathlib.Core.Path.{◌≡◌, refl, ap, ◌∙◌}
-use mathlib.Core.Bool.{true}
-use mathlib.Core.List.{List}
-use native.Mathlib.Omega.{arith}
-use lib.ListN.{length, take}
-use borrow.Author.Tests.{le-ltb}
+use Rattle.std.proofs.Common.{ℕ, min, ◌≡◌, refl, ap, ◌∙◌, true, List, arith, length, take, le-ltb}
 use Rattle.lent.specs.Mem.{slots}
 use Rattle.lent.specs.Room.{free_nodes}
 use Rattle.theory.specs.Says.{says_yes}

@@ -1,8 +1,6 @@
 -- Worked examples, which antt computes: numbers, names, an attribute and a text of two pieces, as document 01 writes them.
 -- Assumes nothing.
-use mathlib.Core.Path.{◌≡◌, refl}
-use mathlib.Core.List.{List, [], ◌∷◌}
-use Prim.Native.Nat.{ℕ}
+use Rattle.std.proofs.Common.{◌≡◌, refl, List, [], ◌∷◌, ℕ}
 use Rattle.names.specs.Table.{names}
 use Rattle.names.specs.Text.{text}
 use Rattle.lent.specs.Mem.{load, inside, slots, place, get16}

@@ -1,12 +1,6 @@
 -- How long a line can be: 65,536 bytes hold any line at a level up to 4,095, whatever is lent.
 -- Assumes nothing.
-use mathlib.Core.Path.{◌≡◌, refl}
-use mathlib.Core.Bool.{Bool, true, false, cond}
-use mathlib.Core.List.{List, [], ◌∷◌, ◌++◌}
-use Prim.Native.Nat.{ℕ, zero, suc, ◌+◌, ◌-◌, ◌*◌, ◌/◌, ◌%◌, ◌≤◌}
-use native.Mathlib.Omega.{arith}
-use lib.Dec.{eqb, leb, ltb}
-use lib.ListN.{length, length-append}
+use Rattle.std.proofs.Common.{◌≡◌, refl, Bool, true, false, cond, List, [], ◌∷◌, ◌++◌, ℕ, zero, suc, ◌+◌, ◌-◌, ◌*◌, ◌/◌, ◌%◌, ◌≤◌, arith, eqb, leb, ltb, length, length-append}
 use Rattle.names.specs.Text.{text}
 use Rattle.names.specs.Numbers.{bytes_of}
 use Rattle.lent.specs.Mem.{PIECES, PAIRS, load, field, KIND, SPACE, NAME, START, COUNT, PIECE}

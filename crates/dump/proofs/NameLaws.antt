@@ -1,15 +1,6 @@
 -- Each name of the table fits into 32 bytes, so that what `names::put_name` leaves in an array of 32 begins with the name.
 -- Assumes nothing.
-use mathlib.Core.Path.{◌≡◌, sym, ap}
-use mathlib.Core.Bool.{Bool, true, ◌&&◌}
-use mathlib.Core.List.{List, [], ◌∷◌}
-use Prim.Native.Nat.{ℕ, zero, suc, ◌+◌, ◌≤◌}
-use native.Mathlib.Nat.{zero-add}
-use native.Mathlib.Omega.{arith}
-use lib.Dec.{T, leb, leb→le}
-use lib.ListN.{length, get_or, take, drop}
-use lib.Seq.{take_at, length-take-le}
-use borrow.Author.Tests.{le-leb}
+use Rattle.std.proofs.Common.{◌≡◌, sym, ap, Bool, true, ◌&&◌, List, [], ◌∷◌, ℕ, zero, suc, ◌+◌, ◌≤◌, zero-add, arith, T, leb, leb→le, length, get_or, take, drop, take_at, length-take-le, le-leb}
 use Rattle.names.specs.Text.{text}
 use Rattle.names.specs.Table.{names}
 use Rattle.names.specs.Numbers.{rows, bytes_of}

@@ -1,10 +1,7 @@
 -- Document order, case by case: the definitions' answers from the numbers that the code reads.
 -- Assumes nothing.
-use mathlib.Core.Path.{◌≡◌, refl, sym, ◌∙◌}
-use mathlib.Core.List.{List}
-use Prim.Native.Nat.{ℕ, zero, suc, ◌+◌, ◌-◌, ◌≤◌, ◌<◌}
-use native.Mathlib.Omega.{arith}
-use borrow.Author.Tests.{eq-eqb, ne_eqb, le-leb, lt-leb, lt-ltb, le-ltb}
+use Rattle.std.proofs.Common.{◌≡◌, refl, sym, ◌∙◌, List, ℕ, zero, suc, ◌+◌, ◌-◌, ◌≤◌, ◌<◌, arith, eq-eqb, ne_eqb, le-leb, lt-ltb, le-ltb}
+use Rattle.std.proofs.lemmas.Bool.{lt-leb}
 use Rattle.lent.specs.Mem.{field, up, KIND, PARENT, NEXT, FIRST, TIE, COUNT}
 use Rattle.dump.specs.Order.{own_line, no_line, level_down, extra_lines, first_inside, beside, line_beside, line_inside, next_line}
 use Rattle.dump.specs.declared.Cursor.{Cursor}

@@ -1,11 +1,6 @@
 -- A number past the largest number of pairs has no attribute pair: each of its fields reads as 0.
 -- Assumes nothing.
-use mathlib.Core.Path.{◌≡◌}
-use mathlib.Core.List.{List}
-use Prim.Native.Nat.{ℕ, ◌/◌, ◌≤◌, min}
-use native.Mathlib.Omega.{arith}
-use lib.ListN.{length}
-use borrow.Author.Tests.{le-ltb}
+use Rattle.std.proofs.Common.{◌≡◌, List, ℕ, ◌/◌, ◌≤◌, min, arith, length, le-ltb}
 use Rattle.lent.specs.Mem.{PAIRS, load, inside, slots}
 
 pub no_pair : (q : List ℕ) (i f : ℕ) → 4096 ≤ i → load PAIRS q i f ≡ 0

@@ -1,14 +1,8 @@
 -- Laws of writing into a list: nothing, a byte, one text after another, and what the whole is where it fits.
 -- Assumes nothing.
-use mathlib.Core.Path.{◌≡◌, refl, sym, ap, ◌∙◌}
-use mathlib.Core.List.{List, [], ◌∷◌, ◌++◌}
-use Prim.Native.Nat.{ℕ, suc, ◌+◌, ◌≤◌, ◌<◌, min}
-use native.Mathlib.Decide.{dec_lt}
-use native.Mathlib.Nat.{zero-add}
-use native.Mathlib.Numerals.{add-one}
-use native.Mathlib.Omega.{arith}
-use lib.ListN.{length, set, get_or, take, drop, length-append, length-set}
-use lib.Seq.{sets, length-sets, sets-eq, set_out, take-suc}
+use Rattle.std.proofs.Common.{◌≡◌, refl, sym, ap, ◌∙◌, List, [], ◌∷◌, ◌++◌, ℕ, suc, ◌+◌, ◌≤◌, ◌<◌, min, zero-add, add-one, arith, length, set, get_or, take, drop, length-append, length-set, take-suc}
+use Rattle.std.proofs.Math.Decide.{dec_lt}
+use Rattle.std.proofs.Math.Seq.{sets, length-sets, sets-eq, set_out}
 use Rattle.dump.specs.Written.{written, place_after, Wrote}
 
 -- past the end nothing is stored

@@ -1,10 +1,6 @@
 -- A test of a rule, what it decides, and a state each allow one thing only: answer, record and every lent slice.
 -- Assumes nothing.
-use Prim.Native.Nat.{ℕ}
-use mathlib.Core.Path.{◌≡◌, refl, ap, sym, ◌∙◌}
-use mathlib.Core.List.{List, ◌++◌}
-use mathlib.Core.Bool.{Bool, true, false, cond}
-use lib.ListN.{take-append-drop}
+use Rattle.std.proofs.Common.{ℕ, ◌≡◌, refl, ap, sym, ◌∙◌, List, ◌++◌, Bool, true, false, cond, take-append-drop}
 use Rattle.theory.specs.Says.{Says}
 use Rattle.places.specs.Places.{Places, places_of}
 use Rattle.state.specs.declared.State.{State}

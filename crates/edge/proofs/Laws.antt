@@ -1,10 +1,6 @@
 -- The check at the edge, and what a call that checks first gives.
 -- Assumes nothing.
-use Prim.Native.Nat.{ℕ, ◌+◌}
-use mathlib.Core.Path.{◌≡◌, ap, sym, ◌∙◌}
-use mathlib.Core.List.{List}
-use mathlib.Core.Bool.{Bool, true, false}
-use lib.ListN.{length, take, drop, length-append, take-append-drop}
+use Rattle.std.proofs.Common.{ℕ, ◌+◌, ◌≡◌, ap, sym, ◌∙◌, List, Bool, true, false, length, take, drop, length-append, take-append-drop}
 use Rattle.theory.specs.Says.{Says, says_map, says_no}
 use Rattle.places.specs.Places.{places_of}
 use Rattle.sound.specs.Sound.{Sound}

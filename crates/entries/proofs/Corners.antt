@@ -1,10 +1,7 @@
 -- A fourth equal tag drops the first; with a marker between, none; and after a marker, the first after it. The entries are taken to
 -- have the tag, all of them.
 -- Assumes nothing.
-use Prim.Native.Nat.{ℕ}
-use mathlib.Core.Path.{◌≡◌, refl}
-use mathlib.Core.Bool.{Bool, true}
-use mathlib.Core.List.{[], ◌∷◌}
+use Rattle.std.proofs.Common.{ℕ, ◌≡◌, refl, Bool, true, [], ◌∷◌}
 use Rattle.places.specs.Places.{places_of, place_of, first_with, last_with, down}
 use Rattle.places.specs.declared.Found.TheVariants.{At, Nothing}
 use Rattle.standard.specs.Small.{MARKER}

@@ -1,14 +1,7 @@
 -- The cases of equal tags, as the code meets them. Nothing else unfolds what equal means.
 -- Assumes nothing.
-use Prim.Native.Nat.{ℕ, zero, suc, ◌+◌, ◌-◌, ◌<◌, ◌≤◌}
-use mathlib.Core.Path.{◌≡◌, refl, sym, ap, ◌∙◌}
-use mathlib.Core.Bool.{Bool, true, false, ◌&&◌}
-use mathlib.Core.List.{List, ◌∷◌}
-use native.Mathlib.Omega.{arith}
-use native.Mathlib.Numerals.{sub-one}
-use native.Mathlib.Nat.{not-suc-le-zero, add-zero, sub-zero}
-use lib.Dec.{eqb}
-use borrow.Author.Tests.{eq-eqb, ne_eqb, le-ltb}
+use Rattle.std.proofs.Common.{ℕ, zero, suc, ◌+◌, ◌-◌, ◌<◌, ◌≤◌, ◌≡◌, refl, sym, ap, ◌∙◌, Bool, true, false, ◌&&◌, List, ◌∷◌, arith, sub-one, not-suc-le-zero, add-zero, eqb, eq-eqb, ne_eqb, le-ltb}
+use Rattle.std.proofs.Math.Nat.{sub-zero}
 use Rattle.lent.specs.Mem.{PAIRS, slots, inside, load, field, NAME, START, COUNT}
 use Rattle.lent.proofs.Kit.{load_out}
 use Rattle.records.specs.Pair.{name_at, text_at, pair_next}

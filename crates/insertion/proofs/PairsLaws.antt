@@ -1,16 +1,7 @@
 -- The loops over the pairs of a record: one turn of each, and their ends.
 -- Assumes nothing.
-use Prim.Native.Nat.{ℕ, zero, suc, ◌+◌, ◌-◌, ◌<◌, ◌≤◌}
-use mathlib.Core.Path.{◌≡◌, refl, sym, ◌∙◌}
-use mathlib.Core.Bool.{Bool, true, false, ◌||◌}
-use mathlib.Core.List.{List, [], ◌∷◌, ◌++◌}
-use native.Mathlib.Numerals.{add-one, sub-one}
-use native.Mathlib.Omega.{arith}
-use native.Mathlib.Nat.{not-suc-le-zero, le_of_suc-le-suc, add-zero, sub-zero}
-use lib.ListN.{length, get_or, take, set}
-use lib.Seq.{take-suc, take-suc-set}
-use lib.Dec.{eqb}
-use borrow.Author.Tests.{eq-eqb, ne_eqb}
+use Rattle.std.proofs.Common.{ℕ, zero, suc, ◌+◌, ◌-◌, ◌<◌, ◌≤◌, ◌≡◌, refl, sym, ◌∙◌, Bool, true, false, ◌||◌, List, [], ◌∷◌, ◌++◌, add-one, sub-one, arith, not-suc-le-zero, le_of_suc-le-suc, add-zero, length, get_or, take, set, take-suc, take-suc-set, eqb, eq-eqb, ne_eqb}
+use Rattle.std.proofs.Math.Nat.{sub-zero}
 use Rattle.names.specs.Numbers.{is_name}
 use Rattle.names.specs.Sets.{member}
 use Rattle.makers.specs.Make.{pair}

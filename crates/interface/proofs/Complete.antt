@@ -1,8 +1,6 @@
 -- Each public promise allows one result_of only: what the call gives back, the record in it, and every slice that a host can lend.
 -- Assumes nothing.
-use Prim.Native.Nat.{ℕ}
-use mathlib.Core.Path.{◌≡◌, sym, ◌∙◌}
-use mathlib.Core.List.{List}
+use Rattle.std.proofs.Common.{ℕ, ◌≡◌, sym, ◌∙◌, List}
 use Rattle.state.specs.declared.State.{State}
 use Rattle.state.specs.Full.{refused}
 use Rattle.sound.specs.State.{SoundFull}

@@ -1,11 +1,7 @@
 -- The answer of a question is the lowest number of the answer table that applies to it, and 0 if none does: each refusal exactly when
 -- `refusals_of_question` says so.
 -- Assumes nothing.
-use Prim.Native.Nat.{ℕ, ◌-◌, ◌≤◌}
-use mathlib.Core.Path.{◌≡◌, refl, ap, ◌∙◌}
-use mathlib.Core.Logic.{◌≢◌, ◌⊎◌, inl, inr}
-use mathlib.Core.Bool.{Bool, true, false, cond, ◌&&◌}
-use lib.Dec.{eqb, ltb}
+use Rattle.std.proofs.Common.{ℕ, ◌-◌, ◌≤◌, ◌≡◌, refl, ap, ◌∙◌, ◌≢◌, ◌⊎◌, inl, inr, Bool, true, false, cond, ◌&&◌, eqb, ltb}
 use Rattle.places.specs.Places.{Places, at}
 use Rattle.state.specs.declared.Context.{Context}
 use Rattle.state.specs.declared.Context.TheVariants.{None, Element}

@@ -1,9 +1,6 @@
 -- The lowest number that applies, for any table of refusals, is 0 or 2 to 8.
 -- Assumes nothing.
-use mathlib.Core.Path.{refl}
-use mathlib.Core.Logic.{inl, inr}
-use mathlib.Core.Bool.{Bool, true, false}
-use native.Mathlib.Omega.{arith}
+use Rattle.std.proofs.Common.{refl, inl, inr, Bool, true, false, arith}
 use Rattle.standard.specs.Refusals.{Refusals, refusals, applies, least, lowest}
 use Rattle.kept.specs.Fair.{Answer}
 

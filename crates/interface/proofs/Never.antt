@@ -1,8 +1,7 @@
 -- No call sticks, the questions of module 8 included: in a sound state each is refused exactly when the answer table says, with the
 -- lowest number that applies, and then changes nothing; else it gives what its definition gives, and the state is sound after it.
 -- Assumes nothing.
-use mathlib.Core.Path.{refl, ap}
-use Prim.Native.Nat.{ℕ}
+use Rattle.std.proofs.Common.{refl, ap, ℕ}
 use Rattle.state.specs.Full.{Full}
 use Rattle.sound.specs.State.{SoundFull}
 use Rattle.standard.specs.Step.{step}

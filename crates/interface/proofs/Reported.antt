@@ -1,12 +1,7 @@
 -- An adoption, call 8 or 9 made singly, on any record and any lent memory: it takes at most 32 nodes, and the number that it reports is
 -- nodes used after it less before.
 -- Assumes nothing.
-use Prim.Native.Nat.{ℕ, ◌+◌, ◌≤◌}
-use mathlib.Core.Path.{◌≡◌}
-use mathlib.Core.Logic.{◌⊎◌, inl, inr}
-use mathlib.Core.Bool.{Bool, true, false, cond}
-use mathlib.Core.List.{List}
-use native.Mathlib.Omega.{arith}
+use Rattle.std.proofs.Common.{ℕ, ◌+◌, ◌≤◌, ◌≡◌, ◌⊎◌, inl, inr, Bool, true, false, cond, List, arith}
 use Rattle.records.specs.declared.Record.{Record}
 use Rattle.records.specs.declared.Item.TheVariants as is
 use Rattle.records.specs.Record.{item_at}

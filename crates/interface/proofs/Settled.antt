@@ -1,11 +1,7 @@
 -- Every single call that a host can make, on any record and any lent memory: answer 1 exactly if the state is not sound; else what
 -- `never_sticks` says of the call, 2 for a call that is not known and 9 for a record that is cut short or badly written.
 -- Assumes nothing.
-use mathlib.Core.Path.{◌≡◌, refl, ap, sym, ◌∙◌}
-use mathlib.Core.Logic.{◌≢◌, ◌⊎◌, inl, inr}
-use mathlib.Core.Bool.{Bool, true, false, cond}
-use Prim.Native.Nat.{ℕ, ◌≤◌}
-use native.Mathlib.Omega.{arith}
+use Rattle.std.proofs.Common.{◌≡◌, refl, ap, sym, ◌∙◌, ◌≢◌, ◌⊎◌, inl, inr, Bool, true, false, cond, ℕ, ◌≤◌, arith}
 use Rattle.theory.specs.Says.{Says}
 use Rattle.records.specs.declared.Item.{Item}
 use Rattle.records.specs.declared.Item.TheVariants as is

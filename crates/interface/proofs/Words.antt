@@ -1,9 +1,7 @@
 -- The promises of `Public` are the contracts of the source, no more and no less: none asks anything of its caller, and what a caller
 -- learns from one is the promise. What is lent to be read, and what is not lent at all, is the same memory after the call.
 -- Assumes nothing.
-use Prim.Native.Nat.{ℕ}
-use mathlib.Core.Path.{refl}
-use mathlib.Core.List.{List}
+use Rattle.std.proofs.Common.{ℕ, refl, List}
 use borrow.Fn.Kinds.{ParamKind, ResultKind, Dens, res_t, ended_of, In, Out}
 use contract.Lifetimes.{Lfts}
 use denote.Triple.Clauses.{AtExit}

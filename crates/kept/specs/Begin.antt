@@ -1,9 +1,7 @@
 -- A begin that is done leaves a sound state, whatever the lent bytes held before.
 -- Assumes nothing.
 use Rattle.std.specs.Prelude.{ℕ, ◌≤◌, ◌<◌, min, ◌≡◌, ◌≢◌, Bool, true, false, cond, not, List, [], ◌∷◌, ◌++◌, length, take, set, replicate, eqb, ltb}
-use Rattle.std.proofs.Math.Path.{refl}
-use Rattle.std.proofs.Common.{◌∙◌, length-set, get_or-set_same, ltb-false, eqb-true, ne_eqb}
-use native.Mathlib.Omega.{arith}
+use Rattle.std.proofs.Common.{refl, ◌∙◌, length-set, get_or-set_same, ltb-false, eqb-true, ne_eqb, arith}
 use Rattle.std.proofs.Math.Decide.{ℕ_discrete}
 use Rattle.std.proofs.lemmas.List.{length-replicate}
 use Rattle.std.proofs.lemmas.Bool.{not-false}

@@ -1,11 +1,8 @@
 -- An open element gets another parent: the order stays, if that one is an open element before it or an ancestor of one, or the contents
 -- of such a node. The appropriate place is there, if the target and the open tables and templates stand before the element.
 -- Assumes nothing.
-use Prim.Native.Nat.{ℕ, zero, suc, ◌≤◌, ◌<◌}
+use Rattle.std.proofs.Common.{ℕ, zero, suc, ◌≤◌, ◌<◌, refl, ◌∙◌, inl, inr, arith, not-suc-le-zero, le_of_suc-le-suc, take_all, List, [], ◌∷◌}
 use Rattle.std.specs.Prelude.{◌≡◌, ◌≢◌, Bool, true, false, cond, length, get_or, take, drop}
-use Rattle.std.proofs.Math.Path.{refl}
-use Rattle.std.proofs.Common.{◌∙◌, inl, inr, arith, not-suc-le-zero, le_of_suc-le-suc, take_all}
-use mathlib.Core.List.{List, [], ◌∷◌}
 use Rattle.std.proofs.Math.Seq.{split_at}
 use Rattle.names.specs.Tag as tag
 use Rattle.theory.specs.Fn.{Upd, In}

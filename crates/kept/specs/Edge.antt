@@ -2,8 +2,7 @@
 -- look below the counts alone, so a state is sound in the one sense exactly where it is in the other.
 -- Assumes nothing.
 use Rattle.std.specs.Prelude.{ℕ, ◌≤◌, ◌≡◌, ◌↔◌, List, length}
-use Rattle.std.proofs.Common.{arith}
-use Rattle.std.proofs.Math.ListN.{length-take, length-drop}
+use Rattle.std.proofs.Common.{arith, length-take, length-drop}
 use Rattle.places.specs.Places.{places_of}
 use Rattle.places.proofs.Laws.{whole_of, of_whole}
 use Rattle.state.specs.Full.{full}

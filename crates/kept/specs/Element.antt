@@ -1,12 +1,9 @@
 -- Inserting an element keeps a sound state sound: its pairs are stored, it is made, with contents if it is an HTML `template`, put at
 -- its place, and opened if the call asks for it.
 -- Assumes nothing.
-use Prim.Native.Nat.{ℕ, suc, ◌+◌, ◌/◌, ◌≤◌, ◌<◌}
+use Rattle.std.proofs.Common.{ℕ, suc, ◌+◌, ◌/◌, ◌≤◌, ◌<◌, refl, ◌∙◌, arith, ltb-true, ltb-false, eqb-true, eq-eqb, true, false, not, add-one}
 use Rattle.std.specs.Prelude.{◌≡◌, Bool, ◌&&◌, ◌||◌, List, [], ◌∷◌, ◌++◌, length, take, eqb, ltb}
-use Rattle.std.proofs.Math.Path.{refl}
-use Rattle.std.proofs.Common.{◌∙◌, arith, ltb-true, ltb-false, eqb-true, eq-eqb}
-use Rattle.std.proofs.Math.Bool.{true, false, not}
-use Rattle.std.proofs.Math.Numerals.{add-one, add-two}
+use Rattle.std.proofs.Math.Numerals.{add-two}
 use Rattle.std.proofs.lemmas.Bool.{not-false}
 use Rattle.names.specs.Numbers.{is_name}
 use Rattle.names.specs.Space as space

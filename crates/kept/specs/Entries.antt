@@ -1,9 +1,9 @@
 -- The rules on the formatting list, when an entry leaves, comes in as the last, or is replaced.
 -- Assumes nothing.
 use Rattle.std.specs.Prelude.{ℕ, suc, ◌+◌, ◌-◌, ◌≤◌, ◌<◌, ◌≡◌, ◌≢◌, true, cond, List, [], ◌∷◌, ◌++◌, ltb, length, take, drop, set}
-use Rattle.std.proofs.Common.{sym, ap, ◌∙◌, arith, lt-ltb, le-ltb, length-append, length-drop, length-set, get_or-take, get_or-drop, get_or-append-add, get_or-set_same, get_or-set_other, length-take-le}
+use Rattle.std.proofs.Common.{sym, ap, ◌∙◌, arith, lt-ltb, le-ltb, length-append, length-drop, length-set, get_or-take, get_or-drop, get_or-append-add, get_or-set_same, get_or-set_other, length-take-le, length-take}
 use Rattle.std.proofs.Math.Decide.{ℕ_discrete, dec_lt}
-use Rattle.std.proofs.Math.ListN.{length-take, get_or-append}
+use Rattle.std.proofs.Math.ListN.{get_or-append}
 use Rattle.std.proofs.lemmas.List.{get_or_at}
 use Rattle.theory.specs.Fn.{at}
 use Rattle.names.specs.Sets.{is_in, Formatting}

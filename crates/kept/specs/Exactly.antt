@@ -1,14 +1,9 @@
 -- Every call's answer is the lowest number of the answer table that applies to it, and 0 if none does: each refusal exactly when
 -- `Refusals` says so.
 -- Assumes nothing.
-use Prim.Native.Nat.{ℕ, zero, suc, ◌+◌, ◌-◌, ◌<◌, ◌≤◌}
-use Rattle.std.proofs.Math.Path.{◌≡◌, refl, sym}
-use Rattle.std.proofs.Common.{◌∙◌, eq-eqb, ne_eqb, lt-ltb, le-ltb}
+use Rattle.std.proofs.Common.{ℕ, zero, suc, ◌+◌, ◌-◌, ◌<◌, ◌≤◌, ◌≡◌, refl, sym, ◌∙◌, eq-eqb, ne_eqb, lt-ltb, le-ltb, true, false, cond, arith, ltb}
 use Rattle.std.specs.Prelude.{◌≢◌, Bool, not, ◌&&◌, ◌||◌, List, eqb}
-use Rattle.std.proofs.Math.Bool.{true, false, cond}
-use native.Mathlib.Omega.{arith}
 use Rattle.std.proofs.Math.Decide.{ℕ_discrete, dec_lt}
-use Rattle.std.proofs.Math.Dec.{ltb}
 use Rattle.names.specs.Tag as tag
 use Rattle.names.specs.Space as space
 use Rattle.names.specs.Sets.{ButtonScope, TableScope}

@@ -1,9 +1,7 @@
 -- Every call, on any bytes and in any state, has one of the answers below, and a call that is refused changes nothing.
 -- Assumes nothing.
 use Rattle.std.specs.Prelude.{ℕ, ◌-◌, ◌≤◌, ◌≡◌, refl, ◌≢◌, ◌⊎◌, Bool, true, false, cond, ◌&&◌, ◌||◌, List, eqb}
-use Rattle.std.proofs.Common.{inl, inr, arith}
-use Rattle.std.proofs.Math.Bool.{not}
-use Rattle.std.proofs.Math.Dec.{ltb}
+use Rattle.std.proofs.Common.{inl, inr, arith, not, ltb}
 use Rattle.names.specs.Tag as tag
 use Rattle.names.specs.Space as space
 use Rattle.names.specs.Sets.{is_in, Formatting, ButtonScope, TableScope}

@@ -1,14 +1,9 @@
 -- The adoption agency, 4.14 to 4.19: lastNode goes to the appropriate place, a copy of the formatting element takes the children of the
 -- furthest block, and takes the place of the formatting element in stack and list. A sound state stays sound.
 -- Assumes nothing.
-use Prim.Native.Nat.{ℕ, suc, ◌+◌, ◌-◌, ◌≤◌, ◌<◌}
+use Rattle.std.proofs.Common.{ℕ, suc, ◌+◌, ◌-◌, ◌≤◌, ◌<◌, refl, ap, sym, ◌∙◌, take_all, ltb-false, arith, add-one, length}
 use Rattle.std.specs.Prelude.{◌≡◌, ◌≢◌, Bool, true, false, cond, List, ltb}
-use Rattle.std.proofs.Math.Path.{refl, ap}
-use Rattle.std.proofs.Common.{sym, ◌∙◌, take_all, ltb-false}
-use native.Mathlib.Omega.{arith}
-use Rattle.std.proofs.Math.Numerals.{add-one}
 use Rattle.std.proofs.Math.Decide.{dec_lt}
-use Rattle.std.proofs.Math.ListN.{length}
 use Rattle.names.specs.Tag as tag
 use Rattle.theory.specs.Fn.{at}
 use Rattle.theory.specs.Ord.{Wrap}

@@ -1,14 +1,9 @@
 -- Creating an element for a formatting tag, and reconstructing the active formatting elements, keep a sound state sound.
 -- Assumes nothing.
-use Prim.Native.Nat.{ℕ, suc, ◌+◌, ◌≤◌, ◌<◌}
+use Rattle.std.proofs.Common.{ℕ, suc, ◌+◌, ◌≤◌, ◌<◌, refl, ◌∙◌, true, arith, add-one, ltb-true}
 use Rattle.std.specs.Prelude.{◌≡◌, ◌≢◌, false, not, List, [], length, ltb}
-use Rattle.std.proofs.Math.Path.{refl}
-use Rattle.std.proofs.Common.{◌∙◌}
-use Rattle.std.proofs.Math.Bool.{true}
-use native.Mathlib.Omega.{arith}
 use Rattle.std.proofs.Math.Decide.{ℕ_discrete}
-use Rattle.std.proofs.Math.Numerals.{add-one}
-use borrow.Author.Tests.{ltb-true, not-false}
+use Rattle.std.proofs.lemmas.Bool.{not-false}
 use Rattle.theory.specs.Fn.{at}
 use Rattle.names.specs.Space as space
 use Rattle.names.specs.Sets.{is_in, Formatting}

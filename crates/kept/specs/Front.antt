@@ -2,9 +2,9 @@
 -- Laws of `pushed` and `cut`, and the rules of `Sound` that look at places.
 -- Assumes nothing.
 use Rattle.std.specs.Prelude.{ℕ, suc, ◌+◌, ◌≤◌, ◌<◌, ◌≡◌, List, [], ◌∷◌, ◌++◌, length, take}
-use Rattle.std.proofs.Common.{sym, ◌∙◌, arith, get_or-take}
+use Rattle.std.proofs.Common.{sym, ◌∙◌, arith, get_or-take, length-append, length-take, length-drop}
 use Rattle.std.proofs.Math.Decide.{dec_lt}
-use Rattle.std.proofs.Math.ListN.{length-append, length-take, length-drop, length-replicate, get_or-append}
+use Rattle.std.proofs.Math.ListN.{length-replicate, get_or-append}
 use Rattle.std.proofs.lemmas.List.{get_or_at}
 use Rattle.theory.specs.Fn.{at}
 use Rattle.theory.specs.Natural.{Natural}

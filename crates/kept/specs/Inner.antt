@@ -1,14 +1,9 @@
 -- The inner loop of the adoption agency, 4.13, keeps a sound state sound, and ends where the element after the formatting element
 -- on the stack is lastNode.
 -- Assumes nothing.
-use Prim.Native.Nat.{ℕ, zero, suc, ◌+◌, ◌≤◌, ◌<◌}
+use Rattle.std.proofs.Common.{ℕ, zero, suc, ◌+◌, ◌≤◌, ◌<◌, refl, sym, ◌∙◌, ltb-false, eqb-true, true, false, cond, arith, ltb}
 use Rattle.std.specs.Prelude.{◌≡◌, Bool, length, eqb}
-use Rattle.std.proofs.Math.Path.{refl}
-use Rattle.std.proofs.Common.{sym, ◌∙◌, ltb-false, eqb-true}
-use Rattle.std.proofs.Math.Bool.{true, false, cond}
-use native.Mathlib.Omega.{arith}
 use Rattle.std.proofs.Math.Decide.{ℕ_discrete, dec_lt}
-use Rattle.std.proofs.Math.Dec.{ltb}
 use Rattle.std.proofs.lemmas.Bool.{eqb-false}
 use Rattle.theory.specs.Fn.{at}
 use Rattle.lent.specs.Mem.{NODES, slots}

@@ -1,9 +1,7 @@
 -- Inserting a comment and inserting text keep a sound state sound.
 -- Assumes nothing.
-use Prim.Native.Nat.{ℕ, zero, suc, ◌≤◌, ◌<◌}
+use Rattle.std.proofs.Common.{ℕ, zero, suc, ◌≤◌, ◌<◌, arith, add-one}
 use Rattle.std.specs.Prelude.{◌≡◌, eqb, ltb}
-use Rattle.std.proofs.Common.{arith}
-use Rattle.std.proofs.Math.Numerals.{add-one}
 use Rattle.std.proofs.lemmas.Bool.{eqb-false}
 use Rattle.lent.specs.Mem.{NODES, PIECES, field, KIND, TEXT}
 use Rattle.lent.specs.Room.{free_nodes, free_pieces}

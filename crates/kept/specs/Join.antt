@@ -1,11 +1,8 @@
 -- A text node gets one more piece: a sound state stays sound. And what stands directly before a place is a used node, or none.
 -- Assumes nothing.
 use Rattle.std.specs.Prelude.{ℕ, suc, ◌≤◌, ◌<◌, ◌≡◌, ◌≢◌, ◌⊎◌, Bool, List, ◌∷◌, ◌++◌, length, ltb}
-use Rattle.std.proofs.Math.Path.{refl, fun_ext}
-use Rattle.std.proofs.Common.{sym, ◌∙◌, inl, inr, arith}
-use Rattle.std.proofs.Math.Bool.{true, false, cond}
-use Rattle.std.proofs.Math.Dec.{eqb}
-use borrow.Author.Tests.{lt-ltb, ne_eqb, eqb-true}
+use Rattle.std.proofs.Common.{refl, sym, ◌∙◌, inl, inr, arith, true, false, cond, eqb, lt-ltb, ne_eqb, eqb-true}
+use Rattle.std.proofs.Math.Path.{fun_ext}
 use Rattle.theory.specs.Fn.{In}
 use Rattle.theory.specs.Kids.{Kids, Run, lst, run_in, run_part, lst_or, in_left}
 use Rattle.theory.specs.Stores.{find}

@@ -2,12 +2,10 @@
 -- leaves the stack.
 -- Assumes nothing.
 use Rattle.std.specs.Prelude.{ℕ, suc, ◌+◌, ◌-◌, ◌≤◌, ◌<◌, ◌≡◌, ◌≢◌, List, ◌∷◌, ◌++◌}
-use Rattle.std.proofs.Common.{sym, ap, ◌∙◌, length-append, length-take, get_or-take, get_or-drop, get_or-append-add, length-take-le}
-use native.Mathlib.Omega.{arith}
+use Rattle.std.proofs.Common.{sym, ap, ◌∙◌, length-append, length-take, get_or-take, get_or-drop, get_or-append-add, length-take-le, arith, length, take, drop, length-drop, take_all}
 use Rattle.std.proofs.Math.Decide.{ℕ_discrete, dec_lt}
-use Rattle.std.proofs.Math.ListN.{length, take, drop, length-drop, get_or-append}
+use Rattle.std.proofs.Math.ListN.{get_or-append}
 use Rattle.std.proofs.lemmas.List.{get_or_at}
-use Rattle.std.proofs.Math.Seq.{take_all}
 use Rattle.theory.specs.Fn.{at}
 use Rattle.theory.specs.Natural.{Natural}
 use Rattle.places.specs.Places.{Places, Whole, without, within}

@@ -2,13 +2,8 @@
 -- list, and when a copy takes its places.
 -- Assumes nothing.
 use Rattle.std.specs.Prelude.{ℕ, suc, ◌+◌, ◌-◌, ◌≤◌, ◌<◌, ◌≡◌, refl, ◌≢◌, Bool, true, false, cond, List, ◌++◌, take, drop, set, ltb}
-use Rattle.std.proofs.Math.Path.{sym}
-use Rattle.std.proofs.Common.{◌∙◌, ltb-false}
-use native.Mathlib.Omega.{arith}
-use Rattle.std.proofs.Math.Numerals.{add-one}
+use Rattle.std.proofs.Common.{sym, ◌∙◌, ltb-false, arith, add-one, length, get_or-set_same, get_or-set_other}
 use Rattle.std.proofs.Math.Decide.{ℕ_discrete, dec_lt}
-use Rattle.std.proofs.Math.ListN.{length}
-use Rattle.std.proofs.Math.Seq.{get_or-set_same, get_or-set_other}
 use Rattle.theory.specs.Fn.{at}
 use Rattle.lent.specs.Mem.{NODES, slots, field, KIND, SPACE, NAME}
 use Rattle.arena.proofs.Lengths.{slots_same}

@@ -2,13 +2,8 @@
 -- the nodes after the used ones, the contents of an HTML `template` right after it; its piece is the one after the used pieces, and its
 -- pairs are the ones after the used pairs, which are numbered from 0.
 -- Assumes nothing.
-use Prim.Native.Nat.{ℕ, zero, suc, ◌+◌, ◌-◌, ◌≤◌, ◌<◌}
-use Rattle.std.proofs.Math.Path.{◌≡◌, refl}
-use Rattle.std.proofs.Common.{ap, ◌∙◌, length-set, get_or-set_same, get_or-set_other, eqb-true}
+use Rattle.std.proofs.Common.{ℕ, zero, suc, ◌+◌, ◌-◌, ◌≤◌, ◌<◌, ◌≡◌, refl, ap, ◌∙◌, length-set, get_or-set_same, get_or-set_other, eqb-true, true, false, not, arith, eqb}
 use Rattle.std.specs.Prelude.{◌≢◌, Bool, cond, ◌&&◌, ◌||◌, List, length, get_or, set, ltb}
-use Rattle.std.proofs.Math.Bool.{true, false, not}
-use native.Mathlib.Omega.{arith}
-use Rattle.std.proofs.Math.Dec.{eqb}
 use Rattle.std.proofs.lemmas.Bool.{eqb-false, not-false}
 use Rattle.names.specs.Space as space
 use Rattle.names.specs.Sets.{is_in, Formatting}

@@ -1,11 +1,8 @@
 -- A tree walked down from a node: what is met is the node and all that is below it, and each of them is met once.
 -- The tree is given twice, by `up`, which leads from a node to the one above it, and by `under`, the nodes right below a node in order.
 -- Assumes nothing.
-use Prim.Native.Nat.{ℕ, zero, suc, ◌≤◌, ◌<◌}
+use Rattle.std.proofs.Common.{ℕ, zero, suc, ◌≤◌, ◌<◌, sym, ◌∙◌, arith, inl, inr, List, [], ◌∷◌, ◌++◌}
 use Rattle.std.specs.Prelude.{◌≡◌, refl, ◌≢◌, ◌⊎◌}
-use Rattle.std.proofs.Common.{sym, ◌∙◌, arith}
-use Rattle.std.proofs.Math.Logic.{inl, inr}
-use mathlib.Core.List.{List, [], ◌∷◌, ◌++◌}
 use Rattle.theory.specs.Fn.{In}
 use Rattle.theory.specs.Ord.{Ord, Out}
 use Rattle.theory.specs.Natural.{Steps, Anc, near, far, alive, lower}

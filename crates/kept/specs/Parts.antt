@@ -1,10 +1,7 @@
 -- One part of a sound state is another: other places, flags, nodes, pieces and pairs.
 -- Assumes nothing.
 use Rattle.std.specs.Prelude.{ℕ, ◌+◌, ◌≤◌, ◌<◌, ◌≡◌, length}
-use Rattle.std.proofs.Common.{◌∙◌, arith}
-use mathlib.Core.List.{List, [], ◌∷◌, ◌++◌}
-use Rattle.std.proofs.Math.ListN.{take, length-append}
-use Rattle.std.proofs.Math.Seq.{take_all}
+use Rattle.std.proofs.Common.{◌∙◌, arith, List, [], ◌∷◌, ◌++◌, take, length-append, take_all}
 use Rattle.theory.specs.Natural.{Natural}
 use Rattle.lent.specs.Mem.{field, up, KIND, ELEMENT}
 use Rattle.places.specs.Places.{Places, Whole, pushed}

@@ -2,8 +2,7 @@
 -- state stays sound, if the open tables and templates stand before it too.
 -- Assumes nothing.
 use Rattle.std.specs.Prelude.{ℕ, ◌≤◌, ◌<◌, ◌≡◌, ◌≢◌, true, List, length}
-use Rattle.std.proofs.Math.Path.{sym}
-use Rattle.std.proofs.Common.{◌∙◌, arith}
+use Rattle.std.proofs.Common.{sym, ◌∙◌, arith}
 use Rattle.theory.specs.Fn.{at}
 use Rattle.theory.specs.Natural.{natural→ord, ord→natural}
 use Rattle.lent.specs.Mem.{field}

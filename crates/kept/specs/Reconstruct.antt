@@ -1,15 +1,9 @@
 -- Reconstructing the active formatting elements keeps a sound state sound: each entry made anew is a copy that is put at the usual
 -- place, opened, and takes the entry's place in the list.
 -- Assumes nothing.
-use Prim.Native.Nat.{ℕ, zero, suc, ◌+◌, ◌-◌, ◌≤◌, ◌<◌}
+use Rattle.std.proofs.Common.{ℕ, zero, suc, ◌+◌, ◌-◌, ◌≤◌, ◌<◌, refl, ◌∙◌, get_or-set_other, false, arith, add-one, ltb, ltb-false}
 use Rattle.std.specs.Prelude.{◌≡◌, ◌≢◌, List, [], ◌∷◌, ◌++◌, length, take, eqb}
-use Rattle.std.proofs.Math.Path.{refl}
-use Rattle.std.proofs.Common.{◌∙◌, get_or-set_other}
-use Rattle.std.proofs.Math.Bool.{false}
-use native.Mathlib.Omega.{arith}
-use Rattle.std.proofs.Math.Numerals.{add-one}
-use Rattle.std.proofs.Math.Dec.{ltb}
-use borrow.Author.Tests.{ltb-false, eqb-false}
+use Rattle.std.proofs.lemmas.Bool.{eqb-false}
 use Rattle.theory.specs.Fn as fn
 use Rattle.theory.specs.Natural.{Natural}
 use Rattle.lent.specs.Mem.{NODES, slots, up, KIND, SPACE, NAME}

@@ -1,13 +1,9 @@
 -- The adoption agency, 4.13.6 and 4.13.8: a copy of an open element that is in the formatting list takes its places in stack and list,
 -- and the next element on the stack becomes the child of the copy. A sound state stays sound.
 -- Assumes nothing.
-use Prim.Native.Nat.{ℕ, suc, ◌+◌, ◌≤◌, ◌<◌}
+use Rattle.std.proofs.Common.{ℕ, suc, ◌+◌, ◌≤◌, ◌<◌, sym, ap, ◌∙◌, arith, drop-cons, take_all, add-one, length-set}
 use Rattle.std.specs.Prelude.{◌≡◌, refl, ◌≢◌, List, ◌∷◌, ◌++◌, length, take, drop, set}
-use Rattle.std.proofs.Math.Path.{sym}
-use Rattle.std.proofs.Common.{ap, ◌∙◌, arith, drop-cons, take_all}
-use Rattle.std.proofs.Math.Numerals.{add-one}
 use Rattle.std.proofs.Math.Decide.{ℕ_discrete}
-use Rattle.std.proofs.Math.ListN.{length-set}
 use Rattle.std.proofs.Math.Seq.{split_at}
 use Rattle.std.proofs.lemmas.List.{set_split}
 use Rattle.theory.specs.Fn.{at, Upd, upd_set}

@@ -2,9 +2,7 @@
 -- ones, in 4.13.6, where it takes its node's places in stack and list, and in 4.15 to 4.19.
 -- Assumes nothing.
 use Rattle.std.specs.Prelude.{ℕ, ◌+◌, ◌<◌, ◌≡◌, List, set}
-use Rattle.std.proofs.Math.Path.{refl}
-use Rattle.std.proofs.Common.{◌∙◌}
-use Rattle.std.proofs.Math.ListN.{length}
+use Rattle.std.proofs.Common.{refl, ◌∙◌, length}
 use Rattle.lent.specs.Mem.{NODES, slots, field, KIND, ELEMENT}
 use Rattle.arena.specs.Links.{detached, moved}
 use Rattle.makers.specs.Make.{copied, tag_of}

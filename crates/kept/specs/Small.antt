@@ -1,12 +1,8 @@
 -- The calls that touch places and flags alone keep a sound state sound.
 -- Assumes nothing.
-use Prim.Native.Nat.{ℕ, ◌+◌, ◌-◌, ◌<◌, ◌≤◌, min}
+use Rattle.std.proofs.Common.{ℕ, ◌+◌, ◌-◌, ◌<◌, ◌≤◌, min, refl, ◌∙◌, arith, length, ltb, ltb-true, ltb-false}
 use Rattle.std.specs.Prelude.{◌≡◌, ◌||◌, eqb}
-use Rattle.std.proofs.Math.Path.{refl}
-use Rattle.std.proofs.Common.{◌∙◌, arith}
-use Rattle.std.proofs.Math.ListN.{length}
-use Rattle.std.proofs.Math.Dec.{ltb}
-use borrow.Author.Tests.{ltb-true, ltb-false, eqb-false}
+use Rattle.std.proofs.lemmas.Bool.{eqb-false}
 use Rattle.places.specs.Places.{pushed, cut, place_of, last_with, down, same, never}
 use Rattle.places.specs.declared.Found.{Found}
 use Rattle.places.specs.declared.Found.TheVariants.{At, Nothing}

@@ -1,7 +1,7 @@
 -- The calls 10 to 13, which pop from the stack, keep a sound state sound: each is refused or cuts the stack past the root.
 -- Assumes nothing.
 use Rattle.std.specs.Prelude.{ℕ, ◌≡◌, true, get_or}
-use borrow.Author.Tests.{eq-eqb}
+use Rattle.std.proofs.Common.{eq-eqb}
 use Rattle.names.specs.Space as space
 use Rattle.names.specs.Tag as tag
 use Rattle.names.specs.Sets.{ButtonScope, TableScope}

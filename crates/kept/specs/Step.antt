@@ -1,10 +1,8 @@
 -- Every call by its number, and so every run, keeps a sound state sound. What the calls rely on holds in a sound state.
 -- Assumes nothing.
 use Rattle.std.specs.Prelude.{ℕ, zero, suc, ◌+◌, ◌-◌, ◌≤◌, ◌<◌, ◌≡◌, ◌⊎◌, Bool, true, false, cond, List, get_or, take, drop, eqb, ltb}
-use Rattle.std.proofs.Math.Path.{sym}
-use Rattle.std.proofs.Common.{ap, ◌∙◌, inl, inr, take-append-drop, get_or-take}
+use Rattle.std.proofs.Common.{sym, ap, ◌∙◌, inl, inr, take-append-drop, get_or-take, length, length-append}
 use Rattle.std.proofs.Math.Decide.{ℕ_discrete}
-use Rattle.std.proofs.Math.ListN.{length, length-append}
 use Rattle.places.specs.Places.{places_of}
 use Rattle.places.proofs.Laws.{of_whole}
 use Rattle.records.specs.declared.Record.{Record}

@@ -1,8 +1,7 @@
 -- A new HTML `template` and its contents, and the template put at a place: a sound state stays sound.
 -- Assumes nothing.
 use Rattle.std.specs.Prelude.{ℕ, suc, ◌≤◌, ◌<◌, ◌≡◌, refl, ◌≢◌, true, false, List, [], ◌∷◌, ◌++◌, length, take, eqb, ltb}
-use Rattle.std.proofs.Common.{sym, ◌∙◌}
-use native.Mathlib.Omega.{arith}
+use Rattle.std.proofs.Common.{sym, ◌∙◌, arith}
 use Rattle.std.proofs.Math.Decide.{ℕ_discrete}
 use Rattle.names.specs.Space as space
 use Rattle.names.specs.Tag as tag

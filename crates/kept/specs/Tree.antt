@@ -2,11 +2,8 @@
 -- twice among children; and in document order each node of the document is met once.
 -- Assumes nothing.
 use Rattle.std.specs.Prelude.{ℕ, zero, suc, ◌≤◌, ◌<◌, ◌≡◌, ◌≢◌, ◌↔◌, Bool, true, false, cond, List, ◌∷◌, take}
-use Rattle.std.proofs.Math.Path.{refl}
-use Rattle.std.proofs.Common.{sym, ◌∙◌, inl, inr, arith, lt_irrefl, eq-eqb}
+use Rattle.std.proofs.Common.{refl, sym, ◌∙◌, inl, inr, arith, lt_irrefl, eq-eqb, length-take, get_or-take}
 use Rattle.std.proofs.Math.Decide.{ℕ_discrete}
-use Rattle.std.proofs.Math.ListN.{length-take}
-use Rattle.std.proofs.Math.Seq.{get_or-take}
 use Rattle.names.specs.Space as space
 use Rattle.names.specs.Tag as tag
 use Rattle.theory.specs.Fn.{In}

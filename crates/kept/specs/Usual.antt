@@ -1,12 +1,8 @@
 -- The appropriate place for inserting a node, in a sound state: its parent is a used node that may have children, and is not the
 -- document. All cases of foster parenting.
 -- Assumes nothing.
-use Rattle.std.specs.Prelude.{ℕ, zero, ◌-◌, ◌≤◌, ◌<◌, ◌≡◌, ◌≢◌, Bool, cond, ◌&&◌, ◌||◌, List, ◌∷◌, length, get_or}
-use Rattle.std.proofs.Math.Path.{refl}
-use Rattle.std.proofs.Common.{ap, ◌∙◌, inl, eqb-true}
-use Rattle.std.proofs.Math.Bool.{true, false}
-use native.Mathlib.Omega.{arith}
-use Rattle.std.proofs.Math.Dec.{eqb}
+use Rattle.std.specs.Prelude.{ℕ, zero, ◌-◌, ◌≤◌, ◌<◌, ◌≡◌, ◌≢◌, Bool, cond, ◌&&◌, ◌||◌, List, [], ◌∷◌, length, get_or}
+use Rattle.std.proofs.Common.{refl, ap, ◌∙◌, inl, eqb-true, true, false, arith, eqb}
 use Rattle.std.proofs.lemmas.Bool.{eqb-false}
 use Rattle.names.specs.Space as space
 use Rattle.names.specs.Tag as tag
@@ -98,7 +94,7 @@ module _ {m p q l f t : List ℕ} {c v u d k s foster head : ℕ} {x : Context} 
   has_first n z h y i e = by (o.tree.children.kids n) refl i
     where
       by : (ys : List ℕ) → o.tree.children.kids n ≡ ys → In y ys → ⊥
-      by mathlib.Core.List.[] g j = elim j [ ]
+      by [] g j = elim j [ ]
       by (r ∷ ys) g j =
           let b = run_in (tree.links m) c n 0 (o.tree.children.kids n) 0 r (o.tree.children.is_kids.run n z h) (rw g (inl refl)) in
           let a : field m n FIRST ≡ r = o.tree.children.is_kids.first n z h ∙ ap (λ (w : List ℕ). hd w 0) g in

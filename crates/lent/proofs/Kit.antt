@@ -1,15 +1,8 @@
 -- Reading after writing: the laws of `load`, `store` and `link` by which every other proof goes, once for all regions.
 -- A premise on fields is an equation of a test, which `simp` closes by `refl` where the region and the fields are known.
 -- Assumes nothing.
-use Prim.Native.Nat.{ℕ, zero, suc, ◌+◌, ◌*◌, ◌/◌, ◌%◌, ◌<◌, ◌≤◌, min}
-use mathlib.Core.Path.{◌≡◌, refl, sym, ◌∙◌}
-use mathlib.Core.Bool.{Bool, true, false, cond}
-use mathlib.Core.List.{List}
-use lib.ListN.{length, set, length-set}
-use lib.Seq.{get_or-set_same, get_or-set_other}
-use lib.Dec.{eqb, ltb}
-use borrow.Author.Tests.{lt-ltb, le-ltb, eq-eqb, ne_eqb, ltb-true, eqb-false}
-use native.Mathlib.Omega.{arith}
+use Rattle.std.proofs.Common.{ℕ, zero, suc, ◌+◌, ◌*◌, ◌/◌, ◌%◌, ◌<◌, ◌≤◌, min, ◌≡◌, refl, sym, ◌∙◌, Bool, true, false, cond, List, length, set, length-set, get_or-set_same, get_or-set_other, eqb, ltb, lt-ltb, le-ltb, eq-eqb, ne_eqb, ltb-true, arith}
+use Rattle.std.proofs.lemmas.Bool.{eqb-false}
 use Rattle.lent.specs.Mem.{Region, NODES, PIECES, PAIRS, width, most, slots, inside, place, get16, put16, load, store, link}
 
 -- ---- two bytes

@@ -1,12 +1,6 @@
 -- The cases of the definitions on elements and places, as the code meets them: x, y, z are the numbers that were read.
 -- Assumes nothing.
-use Prim.Native.Nat.{ℕ, ◌-◌, ◌<◌}
-use mathlib.Core.Path.{◌≡◌, sym, ◌∙◌}
-use mathlib.Core.Bool.{Bool, true, false}
-use mathlib.Core.List.{List}
-use lib.ListN.{get_or}
-use lib.Dec.{eqb}
-use borrow.Author.Tests.{eq-eqb, ne_eqb}
+use Rattle.std.proofs.Common.{ℕ, ◌-◌, ◌<◌, ◌≡◌, sym, ◌∙◌, Bool, true, false, List, get_or, eqb, eq-eqb, ne_eqb}
 use Rattle.names.specs.Space as space
 use Rattle.names.specs.Tag as tag
 use Rattle.names.specs.Sets.{is_in, FosterTargets}

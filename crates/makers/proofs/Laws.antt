@@ -1,9 +1,6 @@
 -- The cases of the definitions that branch, as the code meets them.
 -- Assumes nothing.
-use Prim.Native.Nat.{ℕ}
-use mathlib.Core.Path.{◌≡◌}
-use mathlib.Core.Bool.{true, false}
-use mathlib.Core.List.{List}
+use Rattle.std.proofs.Common.{ℕ, ◌≡◌, true, false, List}
 use Rattle.lent.specs.Mem.{CONTENTS}
 use Rattle.lent.specs.Room.{fresh}
 use Rattle.makers.specs.Make.{is_template, nodes_of, plain, bare, tied, element}

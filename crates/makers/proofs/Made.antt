@@ -1,15 +1,8 @@
 -- What making a node does: every field of every other node stays, the new node has no links, and its own fields are what was asked for.
 -- On lists of children: the new node has none, and is in no list.
 -- Assumes nothing.
-use Prim.Native.Nat.{ℕ, suc, ◌≤◌, ◌<◌}
-use mathlib.Core.Path.{◌≡◌, refl}
-use mathlib.Core.Logic.{◌≢◌}
-use mathlib.Core.Bool.{true, false}
-use mathlib.Core.List.{List, []}
-use native.Mathlib.Omega.{arith}
-use native.Mathlib.Decide.{dec_lt}
-use lib.ListN.{length}
-use lib.Dec.{eqb, ltb}
+use Rattle.std.proofs.Common.{ℕ, suc, ◌≤◌, ◌<◌, ◌≡◌, refl, ◌≢◌, true, false, List, [], arith, length, eqb, ltb}
+use Rattle.std.proofs.Math.Decide.{dec_lt}
 use Rattle.theory.specs.Fn.{put, put_upd}
 use Rattle.theory.specs.Kids.{created}
 use Rattle.lent.specs.Mem.{NODES, slots, inside, field, put_field, KIND, PARENT, PREV, NEXT, FIRST, LAST, TIE, SPACE, NAME, MARK, START, COUNT, PIECE, END, DOCUMENT, ELEMENT, TEXT, COMMENT}

@@ -1,11 +1,6 @@
 -- The pieces of a text node as a list: a new text has one piece, an added piece is the last, and the pieces of other texts stay.
 -- Assumes nothing.
-use Prim.Native.Nat.{ℕ}
-use mathlib.Core.Path.{◌≡◌, refl, sym, ap, ◌∙◌}
-use mathlib.Core.Logic.{◌≢◌}
-use mathlib.Core.Bool.{true}
-use mathlib.Core.List.{List, [], ◌∷◌, ◌++◌}
-use lib.Dec.{ltb}
+use Rattle.std.proofs.Common.{ℕ, ◌≡◌, refl, sym, ap, ◌∙◌, ◌≢◌, true, List, [], ◌∷◌, ◌++◌, ltb}
 use Rattle.theory.specs.Fn.{In}
 use Rattle.theory.specs.Kids.{lst}
 use Rattle.theory.specs.Pigeon.{Once}

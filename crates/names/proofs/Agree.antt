@@ -1,14 +1,8 @@
 -- Words and a set, tested at every namespace and every name that the words have a bit for, and what follows at all numbers.
 -- Assumes nothing.
-use mathlib.Core.Path.{◌≡◌, refl, sym}
-use mathlib.Core.Logic.{◌⊎◌, inl, inr}
-use mathlib.Core.Bool.{Bool, true, false, ◌&&◌, beq}
-use mathlib.Core.List.{List, []}
-use Prim.Native.Nat.{ℕ, zero, suc, ◌≤◌, ◌<◌}
-use native.Mathlib.Nat.{eq-or-lt_of_le, le_of_suc-le-suc, not-suc-le-zero}
-use lib.Dec.{T, ltb}
-use mir.Facts.{and_yes}
-use borrow.Author.Tests.{ltb-true, ltb-false}
+use Rattle.std.proofs.Common.{◌≡◌, refl, sym, ◌⊎◌, inl, inr, Bool, true, false, ◌&&◌, List, [], ℕ, zero, suc, ◌≤◌, ◌<◌, eq-or-lt_of_le, le_of_suc-le-suc, not-suc-le-zero, T, ltb, ltb-true, ltb-false}
+use Rattle.std.proofs.Math.Bool.{beq}
+use Rattle.std.proofs.Math.Facts.{and_yes}
 use Rattle.names.specs.Space as space
 use Rattle.names.specs.Table.{span}
 use Rattle.names.specs.Sets.{Names, names_in, is_in}

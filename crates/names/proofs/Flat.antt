@@ -1,12 +1,7 @@
 -- Laws of rows laid one after the other, for any list of rows: where a row starts, how long it is, and what its bytes are.
 -- Assumes nothing.
-use mathlib.Core.Path.{◌≡◌, refl, sym, ◌∙◌, ap}
-use mathlib.Core.List.{List, [], ◌∷◌}
-use Prim.Native.Nat.{ℕ, zero, suc, ◌+◌, ◌≤◌}
-use native.Mathlib.Nat.{add-zero, add_assoc, le_of_suc-le-suc, not-suc-le-zero}
-use native.Mathlib.Omega.{arith}
-use lib.ListN.{length, get_or, take, drop, length-append}
-use lib.Seq.{take-append_seam, drop-append-add}
+use Rattle.std.proofs.Common.{◌≡◌, refl, sym, ◌∙◌, ap, List, [], ◌∷◌, ℕ, zero, suc, ◌+◌, ◌≤◌, add-zero, add_assoc, le_of_suc-le-suc, not-suc-le-zero, arith, length, get_or, take, drop, length-append}
+use Rattle.std.proofs.Math.Seq.{take-append_seam, drop-append-add}
 use Rattle.names.specs.Flat.{flat, before, sums}
 
 pub sums_at : (i : ℕ) (xs : List (List ℕ)) (n : ℕ) → n ≤ length xs → get_or (sums i xs) n 0 ≡ i + before n xs

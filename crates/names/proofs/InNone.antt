@@ -1,9 +1,6 @@
 -- The members of every set are names of the table: so 0, a name of the host's and a number that is no name are in none.
 -- Assumes nothing.
-use mathlib.Core.Path.{◌≡◌}
-use mathlib.Core.Bool.{false}
-use Prim.Native.Nat.{ℕ, ◌≤◌}
-use native.Mathlib.Omega.{arith}
+use Rattle.std.proofs.Common.{◌≡◌, false, ℕ, ◌≤◌, arith}
 use Rattle.names.specs.Table.{limit}
 use Rattle.names.specs.Numbers.{none, host, in_table}
 use Rattle.names.specs.Sets.{Names, names_in, is_in, OneOf}

@@ -1,8 +1,6 @@
 -- The words of each set tell what is in it, at every namespace and number.
 -- Assumes nothing.
-use mathlib.Core.Path.{◌≡◌}
-use Prim.Native.Nat.{ℕ}
-use native.Mathlib.Omega.{arith}
+use Rattle.std.proofs.Common.{◌≡◌, ℕ, arith}
 use Rattle.names.specs.Sets.{Names, is_in, OneOf}
 use Rattle.names.specs.Words.{in_words}
 use Rattle.names.proofs.Agree.{told}

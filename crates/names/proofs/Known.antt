@@ -1,10 +1,7 @@
 -- Which numbers are names: those of the table and the host's are, and 0 and those between the table and the host's are not.
 -- Assumes nothing.
-use mathlib.Core.Path.{◌≡◌, refl}
-use mathlib.Core.Bool.{true, false}
-use Prim.Native.Nat.{ℕ, ◌≤◌, ◌<◌}
-use native.Mathlib.Omega.{arith}
-use borrow.Author.Tests.{ne_eqb, lt-ltb, le-ltb, le-leb, lt-leb}
+use Rattle.std.proofs.Common.{◌≡◌, refl, true, false, ℕ, ◌≤◌, ◌<◌, arith, ne_eqb, lt-ltb, le-ltb, le-leb}
+use Rattle.std.proofs.lemmas.Bool.{lt-leb}
 use Rattle.names.specs.Table.{limit}
 use Rattle.names.specs.Numbers.{none, host, in_table, is_name}
 

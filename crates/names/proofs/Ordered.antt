@@ -1,15 +1,8 @@
 -- Laws of the order of byte strings, for any strings.
 -- Assumes nothing.
-use mathlib.Core.Path.{◌≡◌, refl}
-use mathlib.Core.Bool.{Bool, true, false, ◌&&◌, ◌||◌, false≢true}
-use mathlib.Core.List.{List, [], ◌∷◌}
-use Prim.Native.Nat.{ℕ, zero, suc, ◌≤◌, ◌<◌}
-use native.Mathlib.Nat.{le_refl, le_of_suc-le-suc, not-suc-le-zero}
-use native.Mathlib.Omega.{arith}
-use lib.Dec.{T, eqb, ltb}
-use lib.ListN.{length, get_or}
-use mir.Facts.{and_yes}
-use borrow.Author.Tests.{lt-ltb, le-ltb, eq-eqb, ltb-true, eqb-true}
+use Rattle.std.proofs.Common.{◌≡◌, refl, Bool, true, false, ◌&&◌, ◌||◌, List, [], ◌∷◌, ℕ, zero, suc, ◌≤◌, ◌<◌, le_refl, le_of_suc-le-suc, not-suc-le-zero, arith, T, eqb, ltb, length, get_or, lt-ltb, le-ltb, eq-eqb, ltb-true, eqb-true}
+use Rattle.std.proofs.Math.Bool.{false≢true}
+use Rattle.std.proofs.Math.Facts.{and_yes}
 use Rattle.names.specs.Order.{is_before, leads, ascending}
 use Rattle.names.proofs.Members.{is_true}
 

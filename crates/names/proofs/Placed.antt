@@ -1,15 +1,8 @@
 -- Laws of bytes written into a list from a place on, for any bytes.
 -- Assumes nothing.
-use mathlib.Core.Path.{◌≡◌, refl, ◌∙◌}
-use mathlib.Core.Bool.{Bool, true, false, cond}
-use mathlib.Core.List.{List, [], ◌++◌, append_assoc}
-use Prim.Native.Nat.{ℕ, suc, ◌+◌, ◌≤◌, ◌<◌}
-use native.Mathlib.Nat.{add-zero, add-suc}
-use native.Mathlib.Omega.{arith}
-use lib.Dec.{leb}
-use lib.ListN.{length, get_or, set, take, drop, length-append, length-drop, take-append-drop}
-use lib.Seq.{length-take-le, take-length, take-suc, drop-cons, set_at}
-use borrow.Author.Tests.{le-leb, lt-leb, leb-true}
+use Rattle.std.proofs.Common.{◌≡◌, refl, ◌∙◌, Bool, true, false, cond, List, [], ◌++◌, append_assoc, ℕ, suc, ◌+◌, ◌≤◌, ◌<◌, add-zero, add-suc, arith, leb, length, get_or, set, take, drop, length-append, length-drop, take-append-drop, length-take-le, take-suc, drop-cons, le-leb, leb-true}
+use Rattle.std.proofs.Math.Seq.{take-length, set_at}
+use Rattle.std.proofs.lemmas.Bool.{lt-leb}
 use Rattle.names.specs.Table.{limit}
 use Rattle.names.specs.Put.{fits, put_at, after_put, put_name, after_name}
 use Rattle.names.proofs.Rows.{past}

@@ -1,14 +1,7 @@
 -- What antt computes of the whole table, once: how many names there are, and that they are in ascending order. And what follows at each name.
 -- Assumes nothing.
-use mathlib.Core.Path.{◌≡◌, refl, ◌∙◌}
-use mathlib.Core.Bool.{true}
-use mathlib.Core.List.{[]}
-use Prim.Native.Nat.{ℕ, zero, suc, ◌+◌, ◌≤◌, ◌<◌}
-use native.Mathlib.Nat.{zero-add, le_of_suc-le-suc, not-suc-le-zero}
-use native.Mathlib.Numerals.{add-one}
-use native.Mathlib.Omega.{arith}
-use lib.Dec.{T}
-use lib.ListN.{length, get_or, take, drop, get_or-eq_default}
+use Rattle.std.proofs.Common.{◌≡◌, refl, ◌∙◌, true, [], ℕ, zero, suc, ◌+◌, ◌≤◌, ◌<◌, zero-add, le_of_suc-le-suc, not-suc-le-zero, add-one, arith, T, length, get_or, take, drop}
+use Rattle.std.proofs.Math.ListN.{get_or-eq_default}
 use Rattle.names.specs.Text.{text}
 use Rattle.names.specs.Table.{names, limit, total}
 use Rattle.names.specs.Numbers.{rows, bytes_of}

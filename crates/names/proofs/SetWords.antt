@@ -2,9 +2,7 @@
 -- The words of each set, and two tests, each computed once for each set: the words agree with the members at every name
 -- that they have a bit for, and the members are names of the table.
 -- Assumes nothing.
-use mathlib.Core.List.{List, [], ◌∷◌}
-use Prim.Native.Nat.{ℕ}
-use lib.Dec.{T}
+use Rattle.std.proofs.Common.{List, [], ◌∷◌, ℕ, T}
 use Rattle.names.specs.Numbers.{in_table}
 use Rattle.names.specs.Sets.{Names, OneOf}
 use Rattle.names.specs.Sets.{formatting, special, math_text_points, math_points, svg_points, default_scope, list_item_adds, button_adds, table_scope, cursory, thorough_adds, foster_targets}

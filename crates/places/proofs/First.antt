@@ -1,14 +1,7 @@
 -- The search for the first entry that is wanted, as a loop makes it: what was found so far, or else the first of the entries that are left.
 -- And what it finds.
 -- Assumes nothing.
-use Prim.Native.Nat.{ℕ, suc, ◌+◌, ◌-◌, ◌≤◌, ◌<◌}
-use mathlib.Core.Path.{◌≡◌, refl, ap, sym, ◌∙◌}
-use mathlib.Core.Bool.{Bool, true, false, cond}
-use mathlib.Core.List.{List, [], ◌∷◌}
-use native.Mathlib.Numerals.{add-one}
-use native.Mathlib.Omega.{arith}
-use lib.ListN.{length, get_or, take, drop, length-drop, drop_of_length-le}
-use lib.Seq.{drop-cons, get_or-drop, get_or-take, length-take-le}
+use Rattle.std.proofs.Common.{ℕ, suc, ◌+◌, ◌-◌, ◌≤◌, ◌<◌, ◌≡◌, refl, ap, sym, ◌∙◌, Bool, true, false, cond, List, [], ◌∷◌, add-one, arith, length, get_or, take, drop, length-drop, drop_of_length-le, drop-cons, get_or-drop, get_or-take, length-take-le}
 use Rattle.places.specs.declared.Found.{Found}
 use Rattle.places.specs.declared.Found.TheVariants.{At, Nothing}
 use Rattle.places.specs.Places.{first_of, first_with}

@@ -1,15 +1,9 @@
 -- Laws of places: searches, and what the loops that shift, open and cut have done so far.
 -- Assumes nothing.
-use Prim.Native.Nat.{ℕ, zero, suc, ◌+◌, ◌-◌, ◌≤◌, ◌<◌}
-use mathlib.Core.Path.{◌≡◌, refl, ap, sym, ◌∙◌}
-use mathlib.Core.Bool.{Bool, true, false}
-use mathlib.Core.List.{List, [], ◌∷◌, ◌++◌}
-use native.Mathlib.Numerals.{add-one}
-use native.Mathlib.Omega.{arith}
-use native.Mathlib.Decide.{dec_lt}
-use lib.ListN.{length, get_or, take, drop, set, replicate, length-append, length-take, length-drop, take-append-drop, get_or-append}
-use lib.Seq.{get_or_at, take-append-add, take_at, take-add, drop-drop, take-take, set_split, append_snoc, take-append-le, drop-cons, length-take-le, get_or-take, take-suc, drop_at, set_at, get_or-append-add, get_or-drop, take-set-lt, drop-set-lt}
-use borrow.Author.Tests.{eq-eqb, ne_eqb, lt-ltb, le-ltb}
+use Rattle.std.proofs.Common.{ℕ, zero, suc, ◌+◌, ◌-◌, ◌≤◌, ◌<◌, ◌≡◌, refl, ap, sym, ◌∙◌, Bool, true, false, List, [], ◌∷◌, ◌++◌, add-one, arith, length, get_or, take, drop, set, replicate, length-append, length-take, length-drop, take-append-drop, take_at, take-add, drop-drop, take-take, drop-cons, length-take-le, get_or-take, take-suc, drop_at, get_or-append-add, get_or-drop, drop-set-lt, eq-eqb, ne_eqb, lt-ltb, le-ltb}
+use Rattle.std.proofs.Math.Decide.{dec_lt}
+use Rattle.std.proofs.Math.ListN.{get_or-append}
+use Rattle.std.proofs.Math.Seq.{get_or_at, take-append-add, set_split, append_snoc, take-append-le, set_at, take-set-lt}
 use Rattle.places.specs.declared.Found.{Found}
 use Rattle.places.specs.declared.Found.TheVariants.{At, Nothing}
 use Rattle.places.specs.Places.{Places, Whole, places_of, at, pushed, without, within, swapped, cut, down, never, same, last_with, place_of, renamed, renamed_at, after_at, exchanged, exchanged_at, left, left_at, first_of, without_any}

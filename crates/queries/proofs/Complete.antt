@@ -1,8 +1,6 @@
 -- Each question's promise allows one result_of only: its answer and its value.
 -- Assumes nothing.
-use Prim.Native.Nat.{ℕ}
-use mathlib.Core.Path.{◌≡◌}
-use mathlib.Core.List.{List}
+use Rattle.std.proofs.Common.{ℕ, ◌≡◌, List}
 use Rattle.sound.specs.State.{SoundFull}
 use Rattle.state.specs.declared.State.{State}
 use Rattle.edge.specs.Public.{whole, Checked}

@@ -1,8 +1,6 @@
 -- Which element an entry of the stack stands for, by case.
 -- Assumes nothing.
-use Prim.Native.Nat.{ℕ, zero, suc}
-use mathlib.Core.Path.{◌≡◌, refl}
-use mathlib.Core.List.{List}
+use Rattle.std.proofs.Common.{ℕ, zero, suc, ◌≡◌, refl, List}
 use Rattle.lent.specs.Mem.{field, SPACE, NAME, MARK}
 use Rattle.state.specs.declared.Context.{Context}
 use Rattle.state.specs.declared.Context.TheVariants.{None, Element}

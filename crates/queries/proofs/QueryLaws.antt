@@ -1,11 +1,7 @@
 -- The questions at the edge: what a sound state gives them, and their answers by case.
 -- Assumes nothing.
-use Prim.Native.Nat.{ℕ, ◌<◌, ◌≤◌}
-use mathlib.Core.Path.{◌≡◌, ap, sym, ◌∙◌}
-use mathlib.Core.Bool.{Bool, true, false}
-use mathlib.Core.List.{List}
-use lib.ListN.{length, get_or}
-use borrow.Author.Tests.{lt-ltb, le-ltb, le-leb, lt-leb}
+use Rattle.std.proofs.Common.{ℕ, ◌<◌, ◌≤◌, ◌≡◌, ap, sym, ◌∙◌, Bool, true, false, List, length, get_or, lt-ltb, le-ltb, le-leb}
+use Rattle.std.proofs.lemmas.Bool.{lt-leb}
 use Rattle.names.specs.Tag as tag
 use Rattle.places.specs.Places.{places_of, at}
 use Rattle.places.proofs.Laws.{at_of}

@@ -1,13 +1,6 @@
 -- The cases of call 7, as the code meets them, for any part of the state that it is not lent.
 -- Assumes nothing.
-use Prim.Native.Nat.{ℕ, zero, suc, ◌+◌, ◌-◌, ◌<◌, ◌≤◌}
-use mathlib.Core.Path.{◌≡◌, refl, sym, ap, ◌∙◌}
-use mathlib.Core.Bool.{Bool, true, false}
-use mathlib.Core.List.{List}
-use native.Mathlib.Omega.{arith}
-use native.Mathlib.Numerals.{sub-one}
-use lib.ListN.{length, get_or}
-use borrow.Author.Tests.{lt-ltb, le-ltb, eq-eqb, ne_eqb}
+use Rattle.std.proofs.Common.{ℕ, zero, suc, ◌+◌, ◌-◌, ◌<◌, ◌≤◌, ◌≡◌, refl, sym, ap, ◌∙◌, Bool, true, false, List, arith, sub-one, length, get_or, lt-ltb, le-ltb, eq-eqb, ne_eqb}
 use Rattle.lent.specs.Mem.{slots}
 use Rattle.lent.specs.Room.{free_nodes, fresh}
 use Rattle.makers.specs.Make.{copied}

@@ -1,18 +1,9 @@
 -- Numbers in unsigned LEB128 (`specs/Written.antt`): `number_at` reads what is so written, up to 65,535, wherever it stands, and reads
 -- nothing else: so only the shortest form.
 -- Assumes nothing.
-use Prim.Native.Nat.{ℕ, zero, suc, ◌+◌, ◌-◌, ◌*◌, ◌/◌, ◌%◌, ◌≤◌, ◌<◌}
-use mathlib.Core.Path.{◌≡◌, refl, sym, ap, ◌∙◌}
-use mathlib.Core.Logic.{◌↔◌}
-use mathlib.Core.Bool.{Bool, true, false}
-use mathlib.Core.List.{List, [], ◌∷◌, ◌++◌}
-use native.Mathlib.Decide.{dec_lt}
-use native.Mathlib.Numerals.{add-one}
-use native.Mathlib.Omega.{arith}
-use borrow.Author.Tests.{ltb-true, ltb-false, eqb-false, lt-ltb, le-ltb, ne_eqb}
-use lib.ListN.{length, get_or, take, drop, length-append, take-append-drop}
-use lib.Seq.{drop-cons, get_or-append-add, length-take-le}
-use lib.Dec.{ltb, eqb}
+use Rattle.std.proofs.Common.{ℕ, zero, suc, ◌+◌, ◌-◌, ◌*◌, ◌/◌, ◌%◌, ◌≤◌, ◌<◌, ◌≡◌, refl, sym, ap, ◌∙◌, ◌↔◌, Bool, true, false, List, [], ◌∷◌, ◌++◌, add-one, arith, ltb-true, ltb-false, lt-ltb, le-ltb, ne_eqb, length, get_or, take, drop, length-append, take-append-drop, drop-cons, get_or-append-add, length-take-le, ltb, eqb}
+use Rattle.std.proofs.Math.Decide.{dec_lt}
+use Rattle.std.proofs.lemmas.Bool.{eqb-false}
 use Rattle.records.specs.declared.Read.{Read}
 use Rattle.records.specs.declared.Read.TheVariants.{Number, Bad}
 use Rattle.records.specs.Number.{number_at, second, third, if_then_else}

@@ -1,12 +1,6 @@
 -- What the agency relies on holds in each of its rounds, and its places are whole at the end.
 -- Assumes nothing.
-use Prim.Native.Nat.{ℕ, zero, suc, ◌+◌, ◌-◌, ◌*◌, ◌<◌, ◌≤◌}
-use mathlib.Core.Path.{◌≡◌, sym, subst}
-use mathlib.Core.Bool.{Bool, true, false, cond}
-use mathlib.Core.List.{List}
-use native.Mathlib.Omega.{arith}
-use native.Mathlib.Numerals.{sub-one}
-use lib.ListN.{length}
+use Rattle.std.proofs.Common.{ℕ, zero, suc, ◌+◌, ◌-◌, ◌*◌, ◌<◌, ◌≤◌, ◌≡◌, sym, subst, Bool, true, false, cond, List, arith, sub-one, length}
 use Rattle.lent.specs.Mem.{slots}
 use Rattle.lent.specs.Room.{free_nodes}
 use Rattle.places.specs.Places.{Places, places_of, place_of}

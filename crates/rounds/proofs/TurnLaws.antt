@@ -1,10 +1,6 @@
 -- The cases of a round, as the code meets them, for any part of the state that it is not lent.
 -- Assumes nothing.
-use Prim.Native.Nat.{ℕ, ◌<◌}
-use mathlib.Core.Path.{◌≡◌, refl, sym, ap, ◌∙◌}
-use mathlib.Core.Bool.{true, false}
-use mathlib.Core.List.{List}
-use lib.ListN.{get_or}
+use Rattle.std.proofs.Common.{ℕ, ◌<◌, ◌≡◌, refl, sym, ap, ◌∙◌, true, false, List, get_or}
 use Rattle.names.specs.Sets.{DefaultScope}
 use Rattle.places.specs.Places.{Places, places_of, same, without, cut, place_of}
 use Rattle.places.specs.declared.Found.{Found}

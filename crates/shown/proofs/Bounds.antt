@@ -1,13 +1,6 @@
 -- How many lines the dump of a sound state has, how long they are, and that `tree_lines` goes down far enough.
 -- Assumes nothing.
-use Prim.Native.Nat.{ℕ, zero, suc, ◌+◌, ◌*◌, ◌≤◌, ◌<◌}
-use mathlib.Core.Path.{◌≡◌, refl, ap}
-use mathlib.Core.Logic.{inl, inr}
-use mathlib.Core.Bool.{Bool, true, false, cond}
-use mathlib.Core.List.{List, [], ◌∷◌, ◌++◌, map}
-use native.Mathlib.Omega.{arith}
-use lib.ListN.{length, length-append}
-use lib.Dec.{eqb}
+use Rattle.std.proofs.Common.{ℕ, zero, suc, ◌+◌, ◌*◌, ◌≤◌, ◌<◌, ◌≡◌, refl, ap, inl, inr, Bool, true, false, cond, List, [], ◌∷◌, ◌++◌, map, arith, length, length-append, eqb}
 use Rattle.theory.specs.Fn.{In}
 use Rattle.theory.specs.Pigeon.{Within}
 use Rattle.lent.specs.Mem.{field, KIND, TIE, COUNT, CONTENTS}

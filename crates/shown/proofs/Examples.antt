@@ -1,10 +1,7 @@
 -- A tree with every kind of line, computed: a template with an attribute, a text in its contents, and a comment as its own child.
 -- Assumes nothing.
-use Prim.Native.Nat.{ℕ, ◌/◌, ◌%◌}
-use Prim.Native.String.{String}
-use mathlib.Core.Path.{◌≡◌, refl}
-use mathlib.Core.List.{List, [], ◌∷◌, ◌++◌}
-use native.Mathlib.Decide.{ℕ_discrete}
+use Rattle.std.proofs.Common.{ℕ, ◌/◌, ◌%◌, String, ◌≡◌, refl, List, [], ◌∷◌, ◌++◌}
+use Rattle.std.proofs.Math.Decide.{ℕ_discrete}
 use Rattle.names.specs.Table.{names}
 use Rattle.names.specs.Tag as tag
 use Rattle.names.specs.Text.{text}

@@ -1,13 +1,8 @@
 -- The tree of a sound state: what is right below a node stands there one beside the other, and what kinds of nodes there are.
 -- Assumes nothing.
-use Prim.Native.Nat.{ℕ, zero, suc, ◌≤◌, ◌<◌}
-use mathlib.Core.Path.{◌≡◌, refl, sym, ◌∙◌}
-use mathlib.Core.Logic.{◌≢◌, ◌⊎◌, inl, inr}
-use mathlib.Core.Bool.{Bool, true, false, false≢true}
-use mathlib.Core.List.{List, [], ◌∷◌}
-use native.Mathlib.Omega.{arith}
-use native.Mathlib.Decide.{ℕ_discrete}
-use lib.ListN.{take}
+use Rattle.std.proofs.Common.{ℕ, zero, suc, ◌≤◌, ◌<◌, ◌≡◌, refl, sym, ◌∙◌, ◌≢◌, ◌⊎◌, inl, inr, Bool, true, false, List, [], ◌∷◌, arith, take}
+use Rattle.std.proofs.Math.Bool.{false≢true}
+use Rattle.std.proofs.Math.Decide.{ℕ_discrete}
 use Rattle.names.specs.Tag as tag
 use Rattle.theory.specs.Fn.{In}
 use Rattle.theory.specs.Ord.{Ord}

@@ -2,13 +2,8 @@
 -- ends, after 17 lines for each node at most, and each line fits in 65,536 bytes. Each node that is in the document, but the document
 -- and contents, has its own line once.
 -- Assumes nothing.
-use Prim.Native.Nat.{ℕ, ◌-◌, ◌*◌, ◌≤◌, ◌<◌}
-use mathlib.Core.Path.{◌≡◌, refl, sym, ◌∙◌, subst}
-use mathlib.Core.Logic.{◌≢◌, inl, inr, ◌↔◌}
-use mathlib.Core.Bool.{Bool, true, false}
-use mathlib.Core.List.{List, [], ◌∷◌, map}
-use native.Mathlib.Omega.{arith}
-use lib.ListN.{length, length-map}
+use Rattle.std.proofs.Common.{ℕ, ◌-◌, ◌*◌, ◌≤◌, ◌<◌, ◌≡◌, refl, sym, ◌∙◌, subst, ◌≢◌, inl, inr, ◌↔◌, Bool, true, false, List, [], ◌∷◌, map, arith, length}
+use Rattle.std.proofs.Math.ListN.{length-map}
 use Rattle.names.specs.Tag as tag
 use Rattle.theory.specs.Fn.{In}
 use Rattle.theory.specs.Anc.{Reach}

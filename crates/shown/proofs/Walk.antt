@@ -1,14 +1,7 @@
 -- The walk by links goes through a tree of lists. The tree is given by `Sits`: what is right below a node stands there one beside the
 -- other, and from the lines of a node alone the next line is that of the first below it, or else of what comes after it.
 -- Assumes nothing.
-use Prim.Native.Nat.{ℕ, zero, suc, ◌+◌, ◌-◌, ◌≤◌, ◌<◌}
-use mathlib.Core.Path.{◌≡◌, refl, sym, ap, ◌∙◌, subst}
-use mathlib.Core.Logic.{◌≢◌, inl, inr}
-use mathlib.Core.Bool.{cond}
-use mathlib.Core.List.{List, [], ◌∷◌, ◌++◌}
-use native.Mathlib.Omega.{arith}
-use lib.Dec.{eqb, leb}
-use borrow.Author.Tests.{ne_eqb}
+use Rattle.std.proofs.Common.{ℕ, zero, suc, ◌+◌, ◌-◌, ◌≤◌, ◌<◌, ◌≡◌, refl, sym, ap, ◌∙◌, subst, ◌≢◌, inl, inr, cond, List, [], ◌∷◌, ◌++◌, arith, eqb, leb, ne_eqb}
 use Rattle.theory.specs.Fn.{In}
 use Rattle.theory.specs.Kids.{hd}
 use Rattle.theory.specs.Natural.{Steps}

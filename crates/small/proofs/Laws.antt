@@ -1,14 +1,6 @@
 -- The cases of the calls that touch places and flags alone, as the code meets them, for any part of the state that they are not lent.
 -- Assumes nothing.
-use Prim.Native.Nat.{ℕ, ◌-◌, ◌<◌, ◌≤◌, min}
-use mathlib.Core.Path.{◌≡◌, refl, sym, ap, ◌∙◌}
-use mathlib.Core.Bool.{Bool, true, false, ◌||◌}
-use mathlib.Core.Logic.{◌⊎◌, inl, inr}
-use mathlib.Core.List.{List}
-use native.Mathlib.Omega.{arith}
-use lib.ListN.{length, get_or, take, drop, length-append, take-append-drop}
-use lib.Dec.{eqb, ltb}
-use borrow.Author.Tests.{lt-ltb, le-ltb, eq-eqb, ne_eqb}
+use Rattle.std.proofs.Common.{ℕ, ◌-◌, ◌<◌, ◌≤◌, min, ◌≡◌, refl, sym, ap, ◌∙◌, Bool, true, false, ◌||◌, ◌⊎◌, inl, inr, List, arith, length, get_or, take, drop, length-append, take-append-drop, eqb, ltb, lt-ltb, le-ltb, eq-eqb, ne_eqb}
 use Rattle.places.specs.Places.{Places, places_of, pushed, cut, place_of}
 use Rattle.places.specs.declared.Found.{Found}
 use Rattle.places.specs.declared.Found.TheVariants.{At, Nothing}

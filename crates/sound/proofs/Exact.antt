@@ -1,11 +1,7 @@
 -- The contract of `sound::sound`, `Says (Sound ..) r`, in both directions: the answer r is yes exactly where the state is sound,
 -- and there is only one answer that the contract allows.
 -- Assumes nothing.
-use mathlib.Core.Path.{◌≡◌, refl, sym}
-use mathlib.Core.Bool.{Bool, true, false}
-use mathlib.Core.Logic.{◌↔◌}
-use mathlib.Core.List.{List}
-use Prim.Native.Nat.{ℕ}
+use Rattle.std.proofs.Common.{◌≡◌, refl, sym, Bool, true, false, ◌↔◌, List, ℕ}
 use Rattle.theory.specs.Says.{Says}
 use Rattle.state.specs.declared.Context.{Context}
 use Rattle.sound.specs.Sound.{Sound}

@@ -1,11 +1,6 @@
 -- Going up from a used node leads to a used node or to none, by the rules on links and kinds. Assumes nothing.
-use mathlib.Core.Path.{◌≡◌}
-use mathlib.Core.Bool.{cond}
-use mathlib.Core.List.{List}
-use Prim.Native.Nat.{ℕ, ◌≤◌, ◌<◌}
-use native.Mathlib.Decide.{ℕ_discrete}
-use borrow.Author.Tests.{eq-eqb, ne_eqb}
-use lib.Dec.{eqb}
+use Rattle.std.proofs.Common.{◌≡◌, cond, List, ℕ, ◌≤◌, ◌<◌, eq-eqb, ne_eqb, eqb}
+use Rattle.std.proofs.Math.Decide.{ℕ_discrete}
 use Rattle.lent.specs.Mem.{field, up, KIND, PARENT, TIE, CONTENTS}
 use Rattle.theory.specs.Depth.{InRange}
 use Rattle.links.specs.Links.{Children}

@@ -2,16 +2,8 @@
 -- links agree both ways; each child is met once from its parent's first; contents are in no list of children; the
 -- document's one element child is the root; what is used lies in the lent bytes.
 -- Assumes nothing.
-use mathlib.Core.Path.{◌≡◌, sym}
-use mathlib.Core.Logic.{◌≢◌, ◌⊎◌, inl, inr}
-use mathlib.Core.List.{List}
-use mathlib.Core.Bool.{true}
-use Prim.Native.Nat.{ℕ, zero, suc, ◌≤◌, ◌<◌, ◌/◌, min}
-use native.Mathlib.Nat.{lt_irrefl, le_refl}
-use native.Mathlib.Decide.{ℕ_discrete}
-use native.Mathlib.Omega.{arith}
-use borrow.Author.Tests.{lt-ltb}
-use lib.ListN.{length}
+use Rattle.std.proofs.Common.{◌≡◌, sym, ◌≢◌, ◌⊎◌, inl, inr, List, true, ℕ, zero, suc, ◌≤◌, ◌<◌, ◌/◌, min, lt_irrefl, le_refl, arith, lt-ltb, length}
+use Rattle.std.proofs.Math.Decide.{ℕ_discrete}
 use Rattle.lent.specs.Mem.{NODES, PIECES, PAIRS, slots, inside, field, KIND, PARENT, PREV, NEXT, FIRST, LAST, TIE, SPACE, NAME, ELEMENT, CONTENTS}
 use Rattle.names.specs.Space as space
 use Rattle.names.specs.Tag as tag

@@ -1,15 +1,8 @@
 -- What a sound state is, one theorem for each rule of the paragraph "Sound means" that is not in `Reading`: each says its rule of
 -- the fields of the lent memory and of the entries of the places.
 -- Assumes nothing.
-use mathlib.Core.Path.{◌≡◌, sym, ◌∙◌}
-use mathlib.Core.Logic.{◌≢◌, ◌⊎◌, inl, inr, ◌↔◌}
-use mathlib.Core.List.{List, [], ◌∷◌}
-use mathlib.Core.Bool.{true}
-use Prim.Native.Nat.{ℕ, suc, ◌+◌, ◌*◌, ◌≤◌, ◌<◌}
-use native.Mathlib.Decide.{ℕ_discrete, dec_lt}
-use native.Mathlib.Omega.{arith}
-use lib.ListN.{length, take, length-take}
-use lib.Seq.{get_or-take}
+use Rattle.std.proofs.Common.{◌≡◌, sym, ◌∙◌, ◌≢◌, ◌⊎◌, inl, inr, ◌↔◌, List, [], ◌∷◌, true, ℕ, suc, ◌+◌, ◌*◌, ◌≤◌, ◌<◌, arith, length, take, length-take, get_or-take}
+use Rattle.std.proofs.Math.Decide.{ℕ_discrete, dec_lt}
 use Rattle.lent.specs.Mem.{field, up, KIND, PARENT, FIRST, LAST, TIE, SPACE, NAME, MARK, START, COUNT, PIECE, END, DOCUMENT, ELEMENT, TEXT, COMMENT, CONTENTS}
 use Rattle.lent.specs.Tree.{links}
 use Rattle.names.specs.Numbers.{is_name}

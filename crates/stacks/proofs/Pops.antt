@@ -1,14 +1,9 @@
 -- Pops as cuts: what "while" and "until" leave of a stack, and that closing an element, implied end tags first, is one cut.
 -- Assumes nothing.
-use Prim.Native.Nat.{ℕ, zero, suc, ◌+◌, ◌-◌, ◌<◌, ◌≤◌}
-use mathlib.Core.Path.{◌≡◌, refl, sym, ap, ◌∙◌}
-use mathlib.Core.Bool.{Bool, true, false, cond}
-use mathlib.Core.List.{List, append_assoc}
-use native.Mathlib.Omega.{arith}
-use native.Mathlib.Decide.{dec_lt}
-use native.Mathlib.Numerals.{sub-one}
-use lib.ListN.{length, get_or, take, replicate, replicate-append-replicate}
-use lib.Seq.{length-take-le, get_or-take, take-take, take-length}
+use Rattle.std.proofs.Common.{ℕ, zero, suc, ◌+◌, ◌-◌, ◌<◌, ◌≤◌, ◌≡◌, refl, sym, ap, ◌∙◌, Bool, true, false, cond, List, append_assoc, arith, sub-one, length, get_or, take, replicate, length-take-le, get_or-take, take-take}
+use Rattle.std.proofs.Math.Decide.{dec_lt}
+use Rattle.std.proofs.Math.ListN.{replicate-append-replicate}
+use Rattle.std.proofs.Math.Seq.{take-length}
 use Rattle.places.specs.Places.{Places, Whole, at, cut}
 use Rattle.places.proofs.Laws.{places_eq, Last}
 use Rattle.standard.specs.Html.{current}

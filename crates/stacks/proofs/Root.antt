@@ -1,15 +1,7 @@
 -- The calls 10 to 13 never pop the root: on a whole stack whose entry 0 is an HTML html, at least that entry is left.
 -- Assumes nothing.
-use Prim.Native.Nat.{ℕ, zero, suc, ◌<◌, ◌≤◌}
-use mathlib.Core.Path.{◌≡◌, refl, sym, ap, ◌∙◌}
-use mathlib.Core.Bool.{Bool, true, false, cond, not, ◌||◌}
-use mathlib.Core.List.{List}
-use native.Mathlib.Omega.{arith}
-use native.Mathlib.Decide.{dec_lt}
-use lib.ListN.{length, get_or}
-use lib.Seq.{length-take-le, get_or-take}
-use lib.Dec.{eqb}
-use borrow.Author.Tests.{eq-eqb}
+use Rattle.std.proofs.Common.{ℕ, zero, suc, ◌<◌, ◌≤◌, ◌≡◌, refl, sym, ap, ◌∙◌, Bool, true, false, cond, not, ◌||◌, List, arith, length, get_or, length-take-le, get_or-take, eqb, eq-eqb}
+use Rattle.std.proofs.Math.Decide.{dec_lt}
 use Rattle.names.specs.Space as space
 use Rattle.names.specs.Tag as tag
 use Rattle.names.specs.Numbers.{is_name}

@@ -1,9 +1,6 @@
-use mathlib.Core.Path.{ap}
-use mathlib.Core.Bool.{not}
+use Rattle.std.proofs.Common.{ap, not, arith, rules}
 use Rattle.adoption.proofs.Laws as laws
 use Rattle.rounds.proofs.FirmLaws as firm
-use native.Mathlib.Omega.{arith}
-use borrow.Author.Rules.{rules}
 use Rattle.adoption.proofs.adoption_agency.Goals as goal
 
 pub agency-requires-clause-firm : goal.agency-requires-clause-firm

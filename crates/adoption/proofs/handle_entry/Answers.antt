@@ -1,9 +1,7 @@
 use Rattle.adoption.proofs.Laws as laws
 use Rattle.rounds.proofs.FirmLaws as firm
-use mathlib.Core.List.{[]}
-use native.Mathlib.Omega.{arith}
+use Rattle.std.proofs.Common.{[], arith, rules}
 use Rattle.state.specs.declared.Context.TheVariants.{None}
-use borrow.Author.Rules.{rules}
 use Rattle.adoption.proofs.handle_entry.Goals as goal
 
 pub returns-then-free_nodes-lt-ROOM : goal.returns-then-free_nodes-lt-ROOM

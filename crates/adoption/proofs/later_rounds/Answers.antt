@@ -1,12 +1,7 @@
 use Rattle.adoption.proofs.Laws as laws
 use Rattle.rounds.proofs.TurnLaws.{round_of}
 use Rattle.rounds.proofs.FirmLaws as firm
-use borrow.Author.Rules.{rules}
-use Prim.Native.Nat.{ℕ}
-use mathlib.Core.Path.{◌≡◌, refl, sym, ◌∙◌}
-use mathlib.Core.List.{List, []}
-use native.Mathlib.Omega.{arith}
-use lib.ListN.{length}
+use Rattle.std.proofs.Common.{rules, ℕ, ◌≡◌, refl, sym, ◌∙◌, List, [], arith, length}
 use Rattle.places.specs.Places.{places_of}
 use Rattle.state.specs.declared.Context.{Context}
 use Rattle.state.specs.declared.Context.TheVariants.{None}

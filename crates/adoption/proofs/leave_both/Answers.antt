@@ -1,5 +1,5 @@
 use Rattle.adoption.proofs.Laws as laws
-use borrow.Author.Rules.{rules}
+use Rattle.std.proofs.Common.{rules}
 use Rattle.adoption.proofs.leave_both.Goals as goal
 
 pub returns : goal.returns

@@ -1,5 +1,5 @@
 use Rattle.begin.proofs.Laws as laws
-use borrow.Author.Rules.{rules}
+use Rattle.std.proofs.Common.{rules}
 use Rattle.begin.proofs.bad_mark.Goals as goal
 
 pub returns-then-mark-eq0 : goal.returns-then-mark-eq0

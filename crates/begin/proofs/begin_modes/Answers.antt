@@ -1,6 +1,5 @@
-use mathlib.Core.Path.{◌∙◌}
+use Rattle.std.proofs.Common.{◌∙◌, rules}
 use Rattle.begin.proofs.Laws as laws
-use borrow.Author.Rules.{rules}
 use Rattle.begin.proofs.begin_modes.Goals as goal
 
 pub returns-then-is_template_context : goal.returns-then-is_template_context

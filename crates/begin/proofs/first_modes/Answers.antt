@@ -1,5 +1,5 @@
 use Rattle.begin.proofs.Laws as laws
-use borrow.Author.Rules.{rules}
+use Rattle.std.proofs.Common.{rules}
 use Rattle.begin.proofs.first_modes.Goals as goal
 
 pub returns-then-is_template_context : goal.returns-then-is_template_context

@@ -1,5 +1,5 @@
 use Rattle.begin.proofs.Laws as laws
-use borrow.Author.Rules.{rules}
+use Rattle.std.proofs.Common.{rules}
 use Rattle.begin.proofs.is_template_context.Goals as goal
 
 pub returns-in-None : goal.returns-in-None

@@ -1,5 +1,5 @@
 use Rattle.calls.proofs.EdgeLaws.{run_edge}
-use borrow.Author.Rules.{rules}
+use Rattle.std.proofs.Common.{rules}
 use Rattle.calls.proofs.run.Goals as goal
 
 pub returns : goal.returns

@@ -1,8 +1,4 @@
-use borrow.Author.Rules.{rules}
-use Prim.Native.Nat.{◌≤◌, ◌-◌}
-use mathlib.Core.Path.{◌≡◌, refl, sym, ◌∙◌}
-use lib.ListN.{length}
-use native.Mathlib.Omega.{arith}
+use Rattle.std.proofs.Common.{rules, ◌≤◌, ◌-◌, ◌≡◌, refl, sym, ◌∙◌, length, arith}
 use Rattle.records.proofs.Past.{item_past}
 use Rattle.sound.specs.State.{SoundFull}
 use Rattle.kept.specs.Step.{sound_ready, sound_modes}

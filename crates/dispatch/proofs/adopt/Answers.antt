@@ -1,5 +1,5 @@
 use Rattle.dispatch.proofs.ReadyLaws as ready
-use borrow.Author.Rules.{rules}
+use Rattle.std.proofs.Common.{rules}
 use Rattle.dispatch.proofs.adopt.Goals as goal
 
 pub adoption_agency-d-requires-clause-firm : goal.adoption_agency-d-requires-clause-firm

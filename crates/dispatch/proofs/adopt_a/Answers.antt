@@ -1,5 +1,5 @@
 use Rattle.dispatch.proofs.ReadyLaws as ready
-use borrow.Author.Rules.{rules}
+use Rattle.std.proofs.Common.{rules}
 use Rattle.dispatch.proofs.adopt_a.Goals as goal
 
 pub handle_misnested_a_tags-d-requires-clause-firm : goal.handle_misnested_a_tags-d-requires-clause-firm

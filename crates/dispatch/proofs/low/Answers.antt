@@ -1,5 +1,5 @@
 use Rattle.dispatch.proofs.Numbers as number
-use borrow.Author.Rules.{rules}
+use Rattle.std.proofs.Common.{rules}
 use Rattle.dispatch.proofs.low.Goals as goal
 
 pub returns-in-1 : goal.returns-in-1

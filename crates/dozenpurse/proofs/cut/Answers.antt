@@ -1,5 +1,4 @@
-use borrow.Author.Rules.{rules}
-use borrow.Author.Tests.{eq-eqb, ne_eqb}
+use Rattle.std.proofs.Common.{rules, eq-eqb, ne_eqb}
 use Rattle.dozenpurse.specs.Leaflet.{cut_answer}
 use Rattle.dozenpurse.proofs.cut.Goals as goal
 

@@ -1,6 +1,4 @@
-use mathlib.Core.Path.{sym}
-use lib.Seq.{length-take-le}
-use borrow.Author.Rules.{rules}
+use Rattle.std.proofs.Common.{sym, length-take-le, rules}
 use Rattle.dozenpurse.proofs.Laws.{input_is, leaflet_is}
 use Rattle.dozenpurse.proofs.leaflet.Goals as goal
 

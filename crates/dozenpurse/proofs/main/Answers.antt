@@ -1,4 +1,4 @@
-use borrow.Author.Rules.{rules}
+use Rattle.std.proofs.Common.{rules}
 use Rattle.dozenpurse.proofs.Laws.{begin_can}
 use Rattle.dozenpurse.proofs.main.Goals as goal
 

@@ -1,7 +1,4 @@
-use Prim.Native.Nat.{◌-◌, ◌≤◌}
-use mathlib.Core.Path.{◌≡◌}
-use lib.ListN.{length}
-use borrow.Author.Rules.{rules}
+use Rattle.std.proofs.Common.{◌-◌, ◌≤◌, ◌≡◌, length, rules}
 use Rattle.dozenpurse.proofs.print_tree.Given as goal
 
 abbrev pub invariant-loop-k : goal.invariant-loop-k

@@ -1,4 +1,4 @@
-use borrow.Author.Rules.{rules}
+use Rattle.std.proofs.Common.{rules}
 use Rattle.names.specs.Text.{text}
 use Rattle.dump.specs.Line.{line_of}
 use Rattle.dump.proofs.WrittenLaws.{and_then, wrote_front}

@@ -1,5 +1,4 @@
-use mathlib.Core.Path.{sym, ◌∙◌}
-use borrow.Author.Rules.{rules}
+use Rattle.std.proofs.Common.{sym, ◌∙◌, rules}
 use Rattle.dump.proofs.OrderLaws.{next_none, next_part, next_inside}
 use Rattle.dump.proofs.next.Goals as goal
 

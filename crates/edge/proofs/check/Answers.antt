@@ -1,5 +1,5 @@
 use Rattle.edge.proofs.Laws.{check_short, check_full}
-use borrow.Author.Rules.{rules}
+use Rattle.std.proofs.Common.{rules}
 use Rattle.edge.proofs.check.Goals as goal
 
 pub returns-then-h-ne-PLACES : goal.returns-then-h-ne-PLACES

@@ -1,5 +1,5 @@
 use Rattle.edge.proofs.Laws.{says_edge}
-use borrow.Author.Rules.{rules}
+use Rattle.std.proofs.Common.{rules}
 use Rattle.edge.proofs.is_sound.Goals as goal
 
 pub returns : goal.returns

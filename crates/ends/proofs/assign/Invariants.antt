@@ -1,12 +1,7 @@
-use borrow.Author.Tests.{eqb-true, eqb-false, not-true, not-false}
+use Rattle.std.proofs.Common.{eqb-true, ◌≡◌, refl, sym, ◌∙◌, ◌≢◌, List, ℕ, ◌≤◌, ◌<◌, ◌+◌, ◌-◌, arith, length, set, length-set}
+use Rattle.std.proofs.lemmas.Bool.{eqb-false, not-true, not-false}
 use Rattle.lent.specs.Mem.{up}
-use mathlib.Core.Path.{◌≡◌, refl, sym, ◌∙◌}
-use mathlib.Core.Logic.{◌≢◌}
-use mathlib.Core.List.{List}
-use Prim.Native.Nat.{ℕ, ◌≤◌, ◌<◌, ◌+◌, ◌-◌}
-use native.Mathlib.Decide.{ℕ_discrete}
-use native.Mathlib.Omega.{arith}
-use lib.ListN.{length, set, length-set}
+use Rattle.std.proofs.Math.Decide.{ℕ_discrete}
 use Rattle.theory.specs.Fn.{at}
 use Rattle.theory.specs.Depth.{InRange, Ends, depth, deeper, right_set, known_set, known_new}
 use Rattle.ends.specs.Say.{Better}

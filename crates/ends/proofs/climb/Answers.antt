@@ -1,7 +1,5 @@
-use mathlib.Core.Path.{◌≡◌, refl}
-use Prim.Native.Nat.{◌≤◌, ◌+◌, ◌-◌}
-use native.Mathlib.Omega.{arith}
-use borrow.Author.Tests.{eqb-true, eqb-false, not-true, not-false}
+use Rattle.std.proofs.Common.{◌≡◌, refl, ◌≤◌, ◌+◌, ◌-◌, arith, eqb-true}
+use Rattle.std.proofs.lemmas.Bool.{eqb-false, not-true, not-false}
 use Rattle.lent.specs.Mem.{up}
 use Rattle.theory.specs.Depth.{Ends, depth, deeper}
 use Rattle.ends.proofs.climb.Goals as goal

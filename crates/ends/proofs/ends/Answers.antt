@@ -1,11 +1,6 @@
-use mathlib.Core.Path.{◌≡◌}
-use mathlib.Core.Bool.{Bool, true}
-use mathlib.Core.List.{List}
-use Prim.Native.Nat.{ℕ, ◌≤◌, ◌<◌}
-use native.Mathlib.Omega.{arith}
-use borrow.Author.Rules.{rules}
-use borrow.Author.Tests.{not-true, not-false}
-use lib.ListN.{length, replicate, length-replicate}
+use Rattle.std.proofs.Common.{◌≡◌, Bool, true, List, ℕ, ◌≤◌, ◌<◌, arith, rules, length, replicate}
+use Rattle.std.proofs.lemmas.Bool.{not-true, not-false}
+use Rattle.std.proofs.Math.ListN.{length-replicate}
 use Rattle.lent.specs.Mem.{up}
 use Rattle.theory.specs.Says.{f≢}
 use Rattle.theory.specs.Depth.{InRange, right_none}

@@ -1,7 +1,6 @@
 use Rattle.formatting.proofs.Laws as laws
-use mathlib.Core.Path.{sym, ◌∙◌}
+use Rattle.std.proofs.Common.{sym, ◌∙◌, rules}
 use Rattle.state.specs.Full.{full}
-use borrow.Author.Rules.{rules}
 use Rattle.formatting.proofs.create_formatting_element_for.Goals as goal
 
 pub returns-then-is_bad : goal.returns-then-is_bad

@@ -1,9 +1,7 @@
 use Rattle.formatting.proofs.Laws as laws
 use Rattle.entries.proofs.SurplusLaws.{surplus_lt}
-use mathlib.Core.Path.{refl}
-use mathlib.Core.List.{[]}
+use Rattle.std.proofs.Common.{refl, [], rules}
 use Rattle.state.specs.declared.Context.TheVariants.{None}
-use borrow.Author.Rules.{rules}
 use Rattle.formatting.proofs.create_listed.Goals as goal
 
 pub is_full-requires : goal.is_full-requires

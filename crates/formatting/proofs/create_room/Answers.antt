@@ -1,7 +1,6 @@
 use Rattle.formatting.proofs.Laws as laws
-use mathlib.Core.Path.{refl, ◌∙◌}
+use Rattle.std.proofs.Common.{refl, ◌∙◌, rules}
 use Rattle.standard.specs.Formatting.{created_for}
-use borrow.Author.Rules.{rules}
 use Rattle.formatting.proofs.create_room.Goals as goal
 
 pub returns-then-free_nodes-eq0 : goal.returns-then-free_nodes-eq0

@@ -1,7 +1,5 @@
 use Rattle.formatting.proofs.Laws as laws
-use native.Mathlib.Omega.{arith}
-use mathlib.Core.Path.{◌∙◌}
-use borrow.Author.Rules.{rules}
+use Rattle.std.proofs.Common.{arith, ◌∙◌, rules}
 use Rattle.formatting.proofs.enlist.Goals as goal
 
 pub push-requires-in-Nothing : goal.push-requires-in-Nothing

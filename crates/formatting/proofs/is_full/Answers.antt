@@ -1,6 +1,5 @@
 use Rattle.formatting.proofs.Laws as laws
-use native.Mathlib.Omega.{arith}
-use borrow.Author.Rules.{rules}
+use Rattle.std.proofs.Common.{arith, rules}
 use Rattle.formatting.proofs.is_full.Goals as goal
 
 pub returns-in-At : goal.returns-in-At

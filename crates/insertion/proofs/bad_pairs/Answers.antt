@@ -1,5 +1,5 @@
 use Rattle.insertion.proofs.ElementLaws as laws
-use borrow.Author.Rules.{rules}
+use Rattle.std.proofs.Common.{rules}
 use Rattle.insertion.proofs.bad_pairs.Goals as goal
 
 pub returns-then-count-gt16 : goal.returns-then-count-gt16

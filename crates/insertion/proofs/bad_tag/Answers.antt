@@ -1,6 +1,6 @@
-use borrow.Author.Tests.{not-true, not-false}
+use Rattle.std.proofs.lemmas.Bool.{not-true, not-false}
 use Rattle.insertion.proofs.ElementLaws as laws
-use borrow.Author.Rules.{rules}
+use Rattle.std.proofs.Common.{rules}
 use Rattle.insertion.proofs.bad_tag.Goals as goal
 
 pub returns-then-ns-gt-SVG : goal.returns-then-ns-gt-SVG

@@ -1,8 +1,6 @@
-use native.Mathlib.Omega.{arith}
+use Rattle.std.proofs.Common.{arith, refl, ◌∙◌, rules}
 use Rattle.insertion.proofs.Laws as laws
-use mathlib.Core.Path.{refl, ◌∙◌}
 use Rattle.lent.proofs.Lowest.{nodes_few}
-use borrow.Author.Rules.{rules}
 use Rattle.insertion.proofs.comment_at.Goals as goal
 
 pub returns-then-free_nodes-eq0 : goal.returns-then-free_nodes-eq0

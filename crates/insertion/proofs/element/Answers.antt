@@ -1,7 +1,7 @@
 use Rattle.standard.specs.Insertion.{new_tag}
 use Rattle.insertion.proofs.ElementLaws as laws
 use Rattle.state.specs.Full.{full}
-use borrow.Author.Rules.{rules}
+use Rattle.std.proofs.Common.{rules}
 use Rattle.insertion.proofs.element.Goals as goal
 
 pub returns-then-bad_tag : goal.returns-then-bad_tag

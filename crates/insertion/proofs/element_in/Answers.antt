@@ -1,8 +1,6 @@
-use mathlib.Core.Path.{◌∙◌}
-use native.Mathlib.Omega.{arith}
+use Rattle.std.proofs.Common.{◌∙◌, arith, rules}
 use Rattle.insertion.proofs.ElementLaws as laws
 use Rattle.standard.specs.Pairs.{pairs_in}
-use borrow.Author.Rules.{rules}
 use Rattle.insertion.proofs.element_in.Goals as goal
 
 pub overflow_add-used : goal.overflow_add-used

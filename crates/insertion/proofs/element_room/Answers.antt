@@ -1,11 +1,8 @@
-use mathlib.Core.List.{[]}
+use Rattle.std.proofs.Common.{[], refl, sym, ◌∙◌, arith, rules}
 use Rattle.state.specs.declared.Context.TheVariants.{None}
 use Rattle.state.specs.Full.{full}
 use Rattle.standard.specs.Pairs.{pairs_in}
-use mathlib.Core.Path.{refl, sym, ◌∙◌}
-use native.Mathlib.Omega.{arith}
 use Rattle.insertion.proofs.ElementLaws as laws
-use borrow.Author.Rules.{rules}
 use Rattle.insertion.proofs.element_room.Goals as goal
 
 pub returns-then-free_nodes-nodes : goal.returns-then-free_nodes-nodes

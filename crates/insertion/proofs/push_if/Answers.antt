@@ -1,5 +1,5 @@
 use Rattle.insertion.proofs.ElementLaws as laws
-use borrow.Author.Rules.{rules}
+use Rattle.std.proofs.Common.{rules}
 use Rattle.insertion.proofs.push_if.Goals as goal
 
 pub returns-then-push : goal.returns-then-push

@@ -1,5 +1,5 @@
 use Rattle.insertion.proofs.Laws as laws
-use borrow.Author.Rules.{rules}
+use Rattle.std.proofs.Common.{rules}
 use Rattle.insertion.proofs.text.Goals as goal
 
 pub returns-then-b-eq-NONE : goal.returns-then-b-eq-NONE

@@ -1,6 +1,5 @@
-use native.Mathlib.Omega.{arith}
+use Rattle.std.proofs.Common.{arith, rules}
 use Rattle.location.proofs.Laws as laws
-use borrow.Author.Rules.{rules}
 use Rattle.insertion.proofs.usual_place.Goals as goal
 
 pub returns : goal.returns

@@ -1,7 +1,6 @@
-use mathlib.Core.Path.{sym, ◌∙◌}
+use Rattle.std.proofs.Common.{sym, ◌∙◌, rules}
 use Rattle.lent.specs.Mem.{PAIRS}
 use Rattle.lent.proofs.Kit.{load_below, load_past}
-use borrow.Author.Rules.{rules}
 use Rattle.lent.proofs.get_pair.Goals as goal
 
 pub returns-then-i-least : goal.returns-then-i-least

@@ -1,7 +1,6 @@
-use mathlib.Core.Path.{sym, ◌∙◌}
+use Rattle.std.proofs.Common.{sym, ◌∙◌, rules}
 use Rattle.lent.specs.Mem.{NODES}
 use Rattle.lent.proofs.Kit.{store_below, store_past}
-use borrow.Author.Rules.{rules}
 use Rattle.lent.proofs.put.Goals as goal
 
 pub returns-then-i-least : goal.returns-then-i-least

@@ -1,5 +1,5 @@
 use Rattle.lent.specs.Mem.{put16}
-use borrow.Author.Rules.{rules}
+use Rattle.std.proofs.Common.{rules}
 use Rattle.lent.proofs.put16.Goals as goal
 
 pub returns : goal.returns

@@ -1,5 +1,5 @@
 use Rattle.lent.proofs.Kit.{link_none, link_some}
-use borrow.Author.Rules.{rules}
+use Rattle.std.proofs.Common.{rules}
 use Rattle.lent.proofs.put_link.Goals as goal
 
 pub returns-then-n-eq-NONE : goal.returns-then-n-eq-NONE

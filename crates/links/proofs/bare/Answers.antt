@@ -1,9 +1,6 @@
-use borrow.Author.Rules.{rules}
-use mathlib.Core.Path.{refl, sym, ◌∙◌}
-use native.Mathlib.Omega.{arith}
+use Rattle.std.proofs.Common.{rules, refl, sym, ◌∙◌, arith, eq-eqb, ne_eqb}
 use Rattle.lent.specs.Mem.{field}
 use Rattle.links.specs.Links.{bare_of}
-use borrow.Author.Tests.{eq-eqb, ne_eqb}
 use Rattle.links.proofs.bare.Goals as goal
 
 pub returns-then-p-eq0 : goal.returns-then-p-eq0

@@ -1,7 +1,4 @@
-use mathlib.Core.Path.{ap}
-use mathlib.Core.Bool.{not}
-use borrow.Author.Rules.{rules}
-use native.Mathlib.Omega.{arith}
+use Rattle.std.proofs.Common.{ap, not, rules, arith}
 use Rattle.theory.specs.Says.{says_no, says_leb, passed, failed}
 use Rattle.links.specs.Links.{counted→children, children→counted, children→nodes}
 use Rattle.links.proofs.children.Goals as goal

@@ -1,7 +1,4 @@
-use mathlib.Core.Path.{◌≡◌}
-use Prim.Native.Nat.{◌<◌, ◌+◌}
-use native.Mathlib.Omega.{arith}
-use lib.ListN.{length}
+use Rattle.std.proofs.Common.{◌≡◌, ◌<◌, ◌+◌, arith, length}
 use Rattle.lent.specs.Mem.{field, NEXT}
 use Rattle.links.specs.Links.{field_of}
 use Rattle.theory.specs.Pigeon.{walk, walk_none, walk_out, walk_more}

@@ -1,7 +1,4 @@
-use mathlib.Core.Path.{◌≡◌}
-use Prim.Native.Nat.{◌≤◌, ◌+◌, ◌-◌, ◌*◌}
-use native.Mathlib.Omega.{arith}
-use lib.ListN.{length}
+use Rattle.std.proofs.Common.{◌≡◌, ◌≤◌, ◌+◌, ◌-◌, ◌*◌, arith, length}
 use Rattle.lent.specs.Mem.{field, PARENT}
 use Rattle.theory.specs.Count.{lists, roots}
 use Rattle.links.specs.Links.{kids_of, field_of, total_step, total_none}

@@ -1,5 +1,4 @@
-use mathlib.Core.Path.{sym, ◌∙◌, ap}
-use native.Mathlib.Omega.{arith}
+use Rattle.std.proofs.Common.{sym, ◌∙◌, ap, arith}
 use Rattle.names.specs.Numbers.{is_name}
 use Rattle.names.proofs.Known.{none_no_name, table_is_name, past_outside}
 use Rattle.names.proofs.is_name.Goals as goal

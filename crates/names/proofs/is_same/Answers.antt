@@ -1,9 +1,4 @@
-use mathlib.Core.Path.{◌≡◌, refl, sym, ◌∙◌}
-use Prim.Native.Nat.{◌-◌, ◌≤◌}
-use native.Mathlib.Numerals.{add-one}
-use native.Mathlib.Omega.{arith}
-use lib.ListN.{length, drop}
-use borrow.Author.Rules.{rules}
+use Rattle.std.proofs.Common.{◌≡◌, refl, sym, ◌∙◌, ◌-◌, ◌≤◌, add-one, arith, length, drop, rules}
 use Rattle.names.specs.Text.{same}
 use Rattle.names.proofs.Find.{bytes_differ, bytes_equal, ended_right, ended_left}
 use Rattle.names.proofs.is_same.Goals as goal

@@ -1,5 +1,4 @@
-use mathlib.Core.Path.{refl}
-use borrow.Author.Rules.{rules}
+use Rattle.std.proofs.Common.{refl, rules}
 use Rattle.names.specs.Text.{text}
 use Rattle.names.specs.Table.{names}
 use Rattle.names.proofs.lookup.Goals as goal

@@ -1,9 +1,4 @@
-use mathlib.Core.Path.{◌≡◌, refl, sym, ◌∙◌, ap}
-use Prim.Native.Nat.{◌-◌, ◌≤◌}
-use native.Mathlib.Numerals.{add-one}
-use native.Mathlib.Omega.{arith}
-use lib.ListN.{drop}
-use borrow.Author.Rules.{rules}
+use Rattle.std.proofs.Common.{◌≡◌, refl, sym, ◌∙◌, ap, ◌-◌, ◌≤◌, add-one, arith, drop, rules}
 use Rattle.names.specs.Text.{same}
 use Rattle.names.specs.Table.{limit}
 use Rattle.names.specs.Numbers.{rows, bytes_of, place, number_of}

@@ -1,13 +1,8 @@
-use mathlib.Core.Path.{◌≡◌, ◌∙◌, ap}
-use mathlib.Core.List.{List}
-use Prim.Native.Nat.{ℕ, ◌+◌, ◌-◌, ◌≤◌}
-use native.Mathlib.Omega.{arith}
-use lib.ListN.{length, get_or, take, drop}
+use Rattle.std.proofs.Common.{◌≡◌, ◌∙◌, ap, List, ℕ, ◌+◌, ◌-◌, ◌≤◌, arith, length, get_or, take, drop, rules}
 use Rattle.names.specs.Table.{limit}
 use Rattle.names.specs.Numbers.{rows, bytes_of}
 use Rattle.names.specs.Flat.{flat, start_of, sums}
 use Rattle.names.proofs.Rows.{starts_length, starts_at, start_next, start_fits, flat_length, part_is}
-use borrow.Author.Rules.{rules}
 use Rattle.names.proofs.name_in.Goals as goal
 
 at_start : {starts : List ℕ} {r : ℕ} (n k : ℕ) → starts ≡ sums 0 rows → k ≡ n → n ≤ limit → r ≡ get_or starts k 0 → r ≡ start_of n

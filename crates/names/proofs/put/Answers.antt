@@ -1,9 +1,4 @@
-use mathlib.Core.Path.{◌≡◌, refl, sym, ◌∙◌, ap}
-use Prim.Native.Nat.{◌+◌, ◌-◌, ◌≤◌}
-use native.Mathlib.Numerals.{add-one}
-use native.Mathlib.Omega.{arith}
-use lib.ListN.{length, length-set}
-use borrow.Author.Rules.{rules}
+use Rattle.std.proofs.Common.{◌≡◌, refl, sym, ◌∙◌, ap, ◌+◌, ◌-◌, ◌≤◌, add-one, arith, length, length-set, rules}
 use Rattle.names.proofs.Placed.{begun, put_at_over, after_put_over, after_put_fits, begun_none, begun_next, begun_all}
 use Rattle.names.proofs.put.Goals as goal
 

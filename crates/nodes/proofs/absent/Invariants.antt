@@ -1,7 +1,4 @@
-use mathlib.Core.Path.{sym, ◌∙◌}
-use mathlib.Core.Logic.{◌≢◌}
-use Prim.Native.Nat.{ℕ, ◌≤◌, ◌<◌, ◌+◌, ◌-◌}
-use native.Mathlib.Omega.{arith}
+use Rattle.std.proofs.Common.{sym, ◌∙◌, ◌≢◌, ℕ, ◌≤◌, ◌<◌, ◌+◌, ◌-◌, arith}
 use Rattle.theory.specs.Says.{says_yes, says_no, below}
 use Rattle.nodes.specs.Nodes.{name_of}
 use Rattle.nodes.proofs.absent.Given as goal

@@ -1,6 +1,4 @@
-use mathlib.Core.Logic.{◌≢◌}
-use Prim.Native.Nat.{ℕ, ◌≤◌, ◌<◌, ◌+◌, ◌-◌}
-use native.Mathlib.Omega.{arith}
+use Rattle.std.proofs.Common.{◌≢◌, ℕ, ◌≤◌, ◌<◌, ◌+◌, ◌-◌, arith}
 use Rattle.theory.specs.Says.{says_yes, says_no, passed, failed, below}
 use Rattle.nodes.specs.Nodes.{name_of}
 use Rattle.nodes.proofs.distinct.Given as goal

@@ -1,7 +1,4 @@
-use mathlib.Core.Path.{◌≡◌, refl, ap, ◌∙◌}
-use Prim.Native.Nat.{ℕ, suc, ◌≤◌}
-use native.Mathlib.Omega.{arith}
-use lib.ListN.{length, length-set}
+use Rattle.std.proofs.Common.{◌≡◌, refl, ap, ◌∙◌, ℕ, suc, ◌≤◌, arith, length, length-set}
 use Rattle.lent.specs.Mem.{up}
 use Rattle.theory.specs.Depth.{depth, deeper}
 use Rattle.theory.specs.Nearest.{Memo, memo_set}

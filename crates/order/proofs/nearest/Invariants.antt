@@ -1,6 +1,4 @@
-use mathlib.Core.Path.{◌≡◌, refl, sym, ap, ◌∙◌}
-use Prim.Native.Nat.{ℕ, suc, ◌≤◌}
-use native.Mathlib.Omega.{arith}
+use Rattle.std.proofs.Common.{◌≡◌, refl, sym, ap, ◌∙◌, ℕ, suc, ◌≤◌, arith}
 use Rattle.lent.specs.Mem.{up}
 use Rattle.theory.specs.Depth.{depth, deeper}
 use Rattle.theory.specs.Nearest.{Memo}

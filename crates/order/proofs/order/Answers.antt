@@ -1,11 +1,6 @@
-use borrow.Author.Rules.{rules}
-use mathlib.Core.Path.{◌≡◌}
-use mathlib.Core.Bool.{Bool, true}
-use mathlib.Core.List.{List}
-use Prim.Native.Nat.{ℕ, ◌≤◌, ◌<◌}
-use native.Mathlib.Omega.{arith}
-use borrow.Author.Tests.{not-true, not-false}
-use lib.ListN.{length, take, length-replicate}
+use Rattle.std.proofs.Common.{rules, ◌≡◌, Bool, true, List, ℕ, ◌≤◌, ◌<◌, arith, length, take}
+use Rattle.std.proofs.lemmas.Bool.{not-true, not-false}
+use Rattle.std.proofs.Math.ListN.{length-replicate}
 use Rattle.theory.specs.Fn.{at}
 use Rattle.theory.specs.Says.{Says, says_no}
 use Rattle.theory.specs.Depth.{InRange, Ends}

@@ -1,9 +1,5 @@
 use Rattle.order.proofs.ordered.Invariants.{Going}
-use mathlib.Core.Path.{◌≡◌, refl, sym, ◌∙◌}
-use mathlib.Core.List.{List}
-use Prim.Native.Nat.{ℕ, ◌≤◌, ◌<◌, ◌+◌, ◌-◌}
-use native.Mathlib.Omega.{arith}
-use lib.ListN.{length}
+use Rattle.std.proofs.Common.{◌≡◌, refl, sym, ◌∙◌, List, ℕ, ◌≤◌, ◌<◌, ◌+◌, ◌-◌, arith, length}
 use Rattle.lent.specs.Mem.{up}
 use Rattle.theory.specs.Fn.{at}
 use Rattle.theory.specs.Says.{f≢, below}

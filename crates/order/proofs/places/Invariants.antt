@@ -1,7 +1,4 @@
-use mathlib.Core.Path.{◌≡◌, refl, sym, ◌∙◌}
-use Prim.Native.Nat.{◌≤◌, ◌-◌}
-use native.Mathlib.Omega.{arith}
-use lib.ListN.{length, length-set}
+use Rattle.std.proofs.Common.{◌≡◌, refl, sym, ◌∙◌, ◌≤◌, ◌-◌, arith, length, length-set}
 use Rattle.theory.specs.Fn.{at}
 use Rattle.theory.specs.Says.{f≢}
 use Rattle.theory.specs.Depth.{depth}

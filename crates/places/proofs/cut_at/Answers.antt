@@ -1,11 +1,6 @@
-use Prim.Native.Nat.{ℕ, ◌≤◌, ◌-◌}
-use mathlib.Core.Path.{◌≡◌, refl, ap, ◌∙◌}
-use mathlib.Core.List.{List}
-use native.Mathlib.Omega.{arith}
-use lib.ListN.{length, set}
+use Rattle.std.proofs.Common.{ℕ, ◌≤◌, ◌-◌, ◌≡◌, refl, ap, ◌∙◌, List, arith, length, set, rules}
 use Rattle.places.specs.Places.{places_of}
 use Rattle.places.proofs.Laws.{cutting, cutting_none, cutting_more, cutting_all}
-use borrow.Author.Rules.{rules}
 use Rattle.places.proofs.cut_at.Goals as goal
 
 pub loop-k-init : goal.loop-k-init

@@ -1,7 +1,5 @@
-use mathlib.Core.Path.{sym, ◌∙◌}
-use native.Mathlib.Omega.{arith}
+use Rattle.std.proofs.Common.{sym, ◌∙◌, arith, rules}
 use Rattle.places.proofs.Laws.{place_lt, exchanged_none, exchanged_at_lem}
-use borrow.Author.Rules.{rules}
 use Rattle.places.proofs.exchange.Goals as goal
 
 pub remove_at-less-requires : goal.remove_at-less-requires

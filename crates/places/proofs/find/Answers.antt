@@ -1,10 +1,6 @@
-use Prim.Native.Nat.{◌≤◌}
-use mathlib.Core.Path.{◌≡◌, refl, sym, ◌∙◌}
-use native.Mathlib.Omega.{arith}
-use borrow.Author.Tests.{eq-eqb, ne_eqb}
+use Rattle.std.proofs.Common.{◌≤◌, ◌≡◌, refl, sym, ◌∙◌, arith, eq-eqb, ne_eqb, rules}
 use Rattle.places.specs.Places.{down, never, same}
 use Rattle.places.proofs.Laws.{down_none, down_hit, down_on, place_of_lem}
-use borrow.Author.Rules.{rules}
 use Rattle.places.proofs.find.Goals as goal
 
 pub returns-then-s-k : goal.returns-then-s-k

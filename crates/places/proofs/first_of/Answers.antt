@@ -1,4 +1,4 @@
-use borrow.Author.Rules.{rules}
+use Rattle.std.proofs.Common.{rules}
 use Rattle.places.proofs.Laws.{first_at, first_none}
 use Rattle.places.proofs.first_of.Goals as goal
 

@@ -1,7 +1,5 @@
-use mathlib.Core.Path.{sym, ◌∙◌}
-use native.Mathlib.Omega.{arith}
+use Rattle.std.proofs.Common.{sym, ◌∙◌, arith, rules}
 use Rattle.places.proofs.Laws.{place_lt, after_none, after_at_lem}
-use borrow.Author.Rules.{rules}
 use Rattle.places.proofs.insert_after.Goals as goal
 
 pub overflow_add-i : goal.overflow_add-i

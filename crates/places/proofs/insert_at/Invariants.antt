@@ -1,11 +1,6 @@
-use Prim.Native.Nat.{ℕ, ◌≤◌, ◌-◌, ◌+◌}
-use mathlib.Core.Path.{◌≡◌, refl, ap, ◌∙◌}
-use mathlib.Core.List.{List}
-use native.Mathlib.Omega.{arith}
-use lib.ListN.{length, get_or, set}
+use Rattle.std.proofs.Common.{ℕ, ◌≤◌, ◌-◌, ◌+◌, ◌≡◌, refl, ap, ◌∙◌, List, arith, length, get_or, set, rules}
 use Rattle.places.specs.Places.{places_of}
 use Rattle.places.proofs.Laws.{opening, opening_none, opening_more, opening_all}
-use borrow.Author.Rules.{rules}
 use Rattle.places.proofs.insert_at.Given as goal
 
 abbrev pub invariant-loop-k : goal.invariant-loop-k

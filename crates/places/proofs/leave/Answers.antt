@@ -1,6 +1,4 @@
-use borrow.Author.Rules.{rules}
-use mathlib.Core.Path.{sym, ◌∙◌}
-use native.Mathlib.Omega.{arith}
+use Rattle.std.proofs.Common.{rules, sym, ◌∙◌, arith}
 use Rattle.places.proofs.Laws.{place_lt, left_none, left_at_lem}
 use Rattle.places.proofs.leave.Goals as goal
 

@@ -1,6 +1,5 @@
-use mathlib.Core.Path.{refl}
+use Rattle.std.proofs.Common.{refl, rules}
 use Rattle.places.proofs.Laws.{pushed_law}
-use borrow.Author.Rules.{rules}
 use Rattle.places.proofs.push.Goals as goal
 
 pub returns : goal.returns

@@ -1,11 +1,6 @@
-use Prim.Native.Nat.{ℕ, ◌≤◌, ◌-◌, ◌+◌}
-use mathlib.Core.Path.{◌≡◌, refl, ap, ◌∙◌}
-use mathlib.Core.List.{List}
-use native.Mathlib.Omega.{arith}
-use lib.ListN.{length, get_or, set}
+use Rattle.std.proofs.Common.{ℕ, ◌≤◌, ◌-◌, ◌+◌, ◌≡◌, refl, ap, ◌∙◌, List, arith, length, get_or, set, rules}
 use Rattle.places.specs.Places.{places_of}
 use Rattle.places.proofs.Laws.{shifted, shifted_none, shifted_more, shifted_all}
-use borrow.Author.Rules.{rules}
 use Rattle.places.proofs.remove_at.Goals as goal
 
 pub loop-k-init : goal.loop-k-init

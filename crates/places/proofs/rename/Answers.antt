@@ -1,7 +1,5 @@
-use mathlib.Core.Path.{sym, ◌∙◌}
-use native.Mathlib.Omega.{arith}
+use Rattle.std.proofs.Common.{sym, ◌∙◌, arith, rules}
 use Rattle.places.proofs.Laws.{place_lt, renamed_none, renamed_at_lem}
-use borrow.Author.Rules.{rules}
 use Rattle.places.proofs.rename.Goals as goal
 
 pub swap_at-requires : goal.swap_at-requires

@@ -1,6 +1,5 @@
-use native.Mathlib.Omega.{arith}
+use Rattle.std.proofs.Common.{arith, rules}
 use Rattle.places.proofs.Laws.{swapped_law}
-use borrow.Author.Rules.{rules}
 use Rattle.places.proofs.swap_at.Goals as goal
 
 pub returns : goal.returns

@@ -1,7 +1,5 @@
 use Rattle.reconstruct.proofs.Laws as laws
-use native.Mathlib.Omega.{arith}
-use mathlib.Core.Path.{◌∙◌}
-use borrow.Author.Rules.{rules}
+use Rattle.std.proofs.Common.{arith, ◌∙◌, rules}
 use Rattle.reconstruct.proofs.copy_in.Goals as goal
 
 pub returns : goal.returns

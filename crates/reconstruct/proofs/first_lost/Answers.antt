@@ -1,8 +1,5 @@
 use Rattle.reconstruct.proofs.Laws as laws
-use borrow.Author.Rules.{rules}
-use Prim.Native.Nat.{◌≤◌}
-use mathlib.Core.Path.{◌≡◌, refl}
-use native.Mathlib.Omega.{arith}
+use Rattle.std.proofs.Common.{rules, ◌≤◌, ◌≡◌, refl, arith}
 use Rattle.places.specs.Places.{places_of, down, never}
 use Rattle.standard.specs.Formatting.{is_marker_or_open}
 use Rattle.reconstruct.proofs.first_lost.Goals as goal

@@ -1,5 +1,5 @@
 use Rattle.reconstruct.proofs.Laws as laws
-use borrow.Author.Rules.{rules}
+use Rattle.std.proofs.Common.{rules}
 use Rattle.reconstruct.proofs.is_marker_or_open.Goals as goal
 
 pub returns-then-n-eq-MARKER : goal.returns-then-n-eq-MARKER

@@ -1,6 +1,5 @@
 use Rattle.reconstruct.proofs.Laws as laws
-use borrow.Author.Rules.{rules}
-use Prim.Native.Nat.{◌+◌}
+use Rattle.std.proofs.Common.{rules, ◌+◌}
 use Rattle.reconstruct.proofs.make_anew.Goals as goal
 
 pub returns-clause-counts : goal.returns-clause-counts

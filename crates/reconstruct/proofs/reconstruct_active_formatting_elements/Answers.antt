@@ -1,7 +1,5 @@
 use Rattle.reconstruct.proofs.Laws as laws
-use native.Mathlib.Omega.{arith}
-use mathlib.Core.Path.{refl}
-use borrow.Author.Rules.{rules}
+use Rattle.std.proofs.Common.{arith, refl, rules}
 use Rattle.reconstruct.proofs.reconstruct_active_formatting_elements.Goals as goal
 
 pub returns-then-free_nodes-lost : goal.returns-then-free_nodes-lost

@@ -1,6 +1,5 @@
-use mathlib.Core.Path.{refl}
+use Rattle.std.proofs.Common.{refl, rules}
 use Rattle.records.specs.Record.{count_of}
-use borrow.Author.Rules.{rules}
 use Rattle.records.proofs.count_of.Goals as goal
 
 pub returns : goal.returns

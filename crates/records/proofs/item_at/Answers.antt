@@ -1,7 +1,5 @@
-use mathlib.Core.Path.{sym, ◌∙◌}
-use borrow.Author.Tests.{eq-eqb, ne_eqb, lt-ltb, le-ltb}
+use Rattle.std.proofs.Common.{sym, ◌∙◌, eq-eqb, ne_eqb, lt-ltb, le-ltb, rules}
 use Rattle.records.specs.Record.{item_at}
-use borrow.Author.Rules.{rules}
 use Rattle.records.proofs.item_at.Goals as goal
 
 pub returns-in_default : goal.returns-in_default

@@ -1,7 +1,5 @@
-use native.Mathlib.Omega.{arith}
-use borrow.Author.Tests.{lt-ltb, le-ltb}
+use Rattle.std.proofs.Common.{arith, lt-ltb, le-ltb, rules}
 use Rattle.records.specs.Number.{number_at}
-use borrow.Author.Rules.{rules}
 use Rattle.records.proofs.number.Goals as goal
 
 pub returns-then-s-at : goal.returns-then-s-at

@@ -1,6 +1,5 @@
-use borrow.Author.Tests.{lt-ltb, le-ltb}
+use Rattle.std.proofs.Common.{lt-ltb, le-ltb, rules}
 use Rattle.records.specs.Record.{number_if}
-use borrow.Author.Rules.{rules}
 use Rattle.records.proofs.number_if.Goals as goal
 
 pub returns-then-i-n : goal.returns-then-i-n

@@ -1,6 +1,4 @@
-use mathlib.Core.Path.{◌≡◌, refl, sym, ◌∙◌}
-use native.Mathlib.Omega.{arith}
-use borrow.Author.Rules.{rules}
+use Rattle.std.proofs.Common.{◌≡◌, refl, sym, ◌∙◌, arith, rules}
 use Rattle.records.specs.Record.{skip_at}
 use Rattle.records.proofs.Laws.{skip_bad, skip_more, skip_none}
 use Rattle.records.proofs.skip_numbers.Goals as goal

@@ -1,7 +1,5 @@
-use native.Mathlib.Omega.{arith}
-use borrow.Author.Tests.{lt-ltb, le-ltb, eq-eqb, ne_eqb}
+use Rattle.std.proofs.Common.{arith, lt-ltb, le-ltb, eq-eqb, ne_eqb, rules}
 use Rattle.records.specs.Number.{third}
-use borrow.Author.Rules.{rules}
 use Rattle.records.proofs.third.Goals as goal
 
 pub returns-then-s-at : goal.returns-then-s-at

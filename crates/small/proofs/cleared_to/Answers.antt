@@ -1,8 +1,6 @@
-use mathlib.Core.Path.{◌∙◌, sym}
-use native.Mathlib.Omega.{arith}
+use Rattle.std.proofs.Common.{◌∙◌, sym, arith, rules}
 use Rattle.places.proofs.Laws.{place_lt}
 use Rattle.small.proofs.Laws as laws
-use borrow.Author.Rules.{rules}
 use Rattle.small.proofs.cleared_to.Goals as goal
 
 pub cut_at-requires : goal.cut_at-requires

@@ -1,6 +1,5 @@
-use mathlib.Core.Logic.{inl, inr}
+use Rattle.std.proofs.Common.{inl, inr, rules}
 use Rattle.small.proofs.Laws as laws
-use borrow.Author.Rules.{rules}
 use Rattle.small.proofs.push_mode.Goals as goal
 
 pub returns-then-v-eq0 : goal.returns-then-v-eq0

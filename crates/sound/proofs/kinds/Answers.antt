@@ -1,7 +1,4 @@
-use mathlib.Core.Path.{ap}
-use mathlib.Core.Bool.{not}
-use Prim.Native.Nat.{ℕ, ◌≤◌, ◌<◌, ◌+◌, ◌-◌}
-use native.Mathlib.Omega.{arith}
+use Rattle.std.proofs.Common.{ap, not, ℕ, ◌≤◌, ◌<◌, ◌+◌, ◌-◌, arith}
 use Rattle.theory.specs.Says.{says_yes, says_no, passed, failed, more}
 use Rattle.nodes.specs.Nodes.{Kind}
 use Rattle.sound.proofs.kinds.Goals as goal

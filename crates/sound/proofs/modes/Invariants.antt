@@ -1,5 +1,4 @@
-use Prim.Native.Nat.{ℕ, ◌≤◌, ◌<◌, ◌-◌}
-use native.Mathlib.Omega.{arith}
+use Rattle.std.proofs.Common.{ℕ, ◌≤◌, ◌<◌, ◌-◌, arith}
 use Rattle.theory.specs.Fn.{at}
 use Rattle.theory.specs.Says.{says_yes, says_no, below}
 use Rattle.sound.proofs.modes.Given as goal

@@ -1,6 +1,4 @@
-use mathlib.Core.Path.{◌≡◌, sym, ◌∙◌}
-use Prim.Native.Nat.{ℕ, ◌≤◌, ◌<◌, ◌-◌}
-use native.Mathlib.Omega.{arith}
+use Rattle.std.proofs.Common.{◌≡◌, sym, ◌∙◌, ℕ, ◌≤◌, ◌<◌, ◌-◌, arith}
 use Rattle.lent.specs.Mem.{field, KIND}
 use Rattle.theory.specs.Fn.{at}
 use Rattle.theory.specs.Says.{says_yes, says_no, below}

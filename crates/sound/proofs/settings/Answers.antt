@@ -1,8 +1,4 @@
-use mathlib.Core.Path.{◌≡◌}
-use mathlib.Core.Bool.{Bool}
-use Prim.Native.Nat.{ℕ, ◌≤◌}
-use native.Mathlib.Omega.{arith}
-use borrow.Author.Rules.{rules}
+use Rattle.std.proofs.Common.{◌≡◌, Bool, ℕ, ◌≤◌, arith, rules}
 use Rattle.theory.specs.Says.{Says, says_yes, says_no, says_map}
 use Rattle.nodes.specs.Nodes.{Tag}
 use Rattle.state.specs.declared.Context.{Context}

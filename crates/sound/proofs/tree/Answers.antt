@@ -1,6 +1,4 @@
-use mathlib.Core.Path.{ap}
-use mathlib.Core.Bool.{not}
-use borrow.Author.Rules.{rules}
+use Rattle.std.proofs.Common.{ap, not, rules}
 use Rattle.theory.specs.Says.{says_no, says_map, passed, failed}
 use Rattle.sound.proofs.Range.{in_range}
 use Rattle.sound.proofs.tree.Goals as goal

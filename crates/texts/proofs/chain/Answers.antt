@@ -1,8 +1,4 @@
-use mathlib.Core.Path.{◌≡◌, refl}
-use mathlib.Core.List.{List}
-use Prim.Native.Nat.{ℕ, ◌<◌, ◌+◌, ◌-◌}
-use native.Mathlib.Omega.{arith}
-use lib.ListN.{length}
+use Rattle.std.proofs.Common.{◌≡◌, refl, List, ℕ, ◌<◌, ◌+◌, ◌-◌, arith, length}
 use Rattle.texts.specs.Texts.{after}
 use Rattle.texts.specs.Pieces.{Met, Unmet, met_none, met_few, met_more, deny_far, deny_seen, deny_last, deny_none}
 use Rattle.texts.specs.Say.{Chained}

@@ -1,10 +1,4 @@
-use mathlib.Core.Path.{◌≡◌, refl, ◌∙◌}
-use mathlib.Core.Logic.{◌≢◌}
-use mathlib.Core.List.{List}
-use Prim.Native.Nat.{ℕ, ◌≤◌, ◌<◌, ◌+◌, ◌-◌}
-use native.Mathlib.Omega.{arith}
-use native.Mathlib.Numerals.{add-one}
-use lib.ListN.{length}
+use Rattle.std.proofs.Common.{◌≡◌, refl, ◌∙◌, ◌≢◌, List, ℕ, ◌≤◌, ◌<◌, ◌+◌, ◌-◌, arith, add-one, length}
 use Rattle.theory.specs.Says.{says_no, says_eqb}
 use Rattle.texts.specs.Texts.{Texts, Going, going_none, going_few, going_more, deny_node, done_all, deny_all}
 use Rattle.texts.specs.Say.{Texted}

@@ -1,9 +1,4 @@
-use borrow.Author.Rules.{rules}
-use mathlib.Core.Path.{◌≡◌, refl, sym, ◌∙◌}
-use mathlib.Core.Logic.{◌≢◌}
-use mathlib.Core.List.{List}
-use Prim.Native.Nat.{ℕ, ◌+◌}
-use native.Mathlib.Omega.{arith}
+use Rattle.std.proofs.Common.{rules, ◌≡◌, refl, sym, ◌∙◌, ◌≢◌, List, ℕ, ◌+◌, arith}
 use Rattle.lent.specs.Mem.{field, KIND, PIECE, END}
 use Rattle.texts.specs.Texts.{after, told_other, told_text, untold_text}
 use Rattle.texts.specs.Say.{Chained, Texted}

@@ -1,7 +1,5 @@
-use borrow.Author.Rules.{rules}
-use Prim.Native.Nat.{ℕ}
-use native.Mathlib.Omega.{arith}
-use lib.ListN.{length-replicate}
+use Rattle.std.proofs.Common.{rules, ℕ, arith}
+use Rattle.std.proofs.Math.ListN.{length-replicate}
 use Rattle.theory.specs.Says.{zeros, says_map}
 use Rattle.texts.specs.Words.{texts→words, words→texts}
 use Rattle.texts.proofs.texts.Goals as goal

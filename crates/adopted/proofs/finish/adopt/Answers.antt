@@ -1,10 +1,6 @@
 use Rattle.adopted.proofs.FinishLaws as laws
-use Prim.Native.Nat.{◌≤◌}
-use mathlib.Core.Path.{◌∙◌}
+use Rattle.std.proofs.Common.{◌≤◌, ◌∙◌, length, arith, rules}
 use Rattle.places.proofs.Laws.{of_whole}
-use lib.ListN.{length}
-use native.Mathlib.Omega.{arith}
-use borrow.Author.Rules.{rules}
 use Rattle.adopted.proofs.finish.adopt.Goals as goal
 
 pub offset_bounds-h-b : goal.offset_bounds-h-b

@@ -1,6 +1,5 @@
 use Rattle.adopted.proofs.FinishLaws as laws
-use native.Mathlib.Omega.{arith}
-use borrow.Author.Rules.{rules}
+use Rattle.std.proofs.Common.{arith, rules}
 use Rattle.adopted.proofs.finish.finish.Goals as goal
 
 pub returns-clause-counts : goal.returns-clause-counts

@@ -1,5 +1,5 @@
 use Rattle.adopted.proofs.FinishLaws as laws
-use borrow.Author.Rules.{rules}
+use Rattle.std.proofs.Common.{rules}
 use Rattle.adopted.proofs.finish.place_last.Goals as goal
 
 pub returns : goal.returns

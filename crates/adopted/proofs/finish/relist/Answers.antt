@@ -1,6 +1,5 @@
 use Rattle.adopted.proofs.FinishLaws as laws
-use native.Mathlib.Omega.{arith}
-use borrow.Author.Rules.{rules}
+use Rattle.std.proofs.Common.{arith, rules}
 use Rattle.adopted.proofs.finish.relist.Goals as goal
 
 pub returns-in-Replace : goal.returns-in-Replace

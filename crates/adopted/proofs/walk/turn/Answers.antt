@@ -1,8 +1,6 @@
 use Rattle.adopted.proofs.WalkLaws as laws
-use mathlib.Core.Path.{sym, ◌∙◌}
+use Rattle.std.proofs.Common.{sym, ◌∙◌, arith, rules}
 use Rattle.places.proofs.Laws.{place_lt}
-use native.Mathlib.Omega.{arith}
-use borrow.Author.Rules.{rules}
 use Rattle.adopted.proofs.walk.turn.Goals as goal
 
 pub leave_both-requires-clause-j_lt_list : goal.leave_both-requires-clause-j_lt_list

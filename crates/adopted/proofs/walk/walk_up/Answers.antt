@@ -1,10 +1,5 @@
 use Rattle.adopted.proofs.WalkLaws as laws
-use borrow.Author.Rules.{rules}
-use Prim.Native.Nat.{ℕ, ◌+◌, ◌-◌, ◌<◌, ◌≤◌}
-use mathlib.Core.Path.{◌≡◌, refl, ◌∙◌}
-use mathlib.Core.List.{List}
-use native.Mathlib.Omega.{arith}
-use lib.ListN.{length}
+use Rattle.std.proofs.Common.{rules, ℕ, ◌+◌, ◌-◌, ◌<◌, ◌≤◌, ◌≡◌, refl, ◌∙◌, List, arith, length}
 use Rattle.state.specs.declared.Context.{Context}
 use Rattle.state.specs.Full.{full}
 use Rattle.adopted.specs.Bookmark.{inner_at, inner}

@@ -1,6 +1,5 @@
-use mathlib.Core.Path.{sym}
+use Rattle.std.proofs.Common.{sym, rules}
 use Rattle.arena.proofs.Laws.{detached_none, detached_some}
-use borrow.Author.Rules.{rules}
 use Rattle.arena.proofs.links.detach.Goals as goal
 
 pub returns-then-p-eq-NONE : goal.returns-then-p-eq-NONE

@@ -1,9 +1,6 @@
-use mathlib.Core.Path.{◌≡◌}
-use mathlib.Core.List.{List}
-use Prim.Native.Nat.{ℕ}
+use Rattle.std.proofs.Common.{◌≡◌, List, ℕ, rules}
 use Rattle.lent.specs.Mem.{field, put_field, link, PARENT, PREV, NEXT, FIRST}
 use Rattle.arena.specs.Links.{inserted}
-use borrow.Author.Rules.{rules}
 use Rattle.arena.proofs.links.insert_before.Goals as goal
 
 -- the calls, one after the other, on any memories

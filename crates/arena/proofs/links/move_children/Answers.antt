@@ -1,11 +1,7 @@
-use mathlib.Core.Path.{◌≡◌}
-use mathlib.Core.List.{List}
-use Prim.Native.Nat.{ℕ}
+use Rattle.std.proofs.Common.{◌≡◌, List, ℕ, sym, rules}
 use Rattle.lent.specs.Mem.{field, FIRST, LAST}
 use Rattle.arena.specs.Links.{moved, spliced}
-use mathlib.Core.Path.{sym}
 use Rattle.arena.proofs.Laws.{moved_none, moved_some}
-use borrow.Author.Rules.{rules}
 use Rattle.arena.proofs.links.move_children.Goals as goal
 
 -- the calls, one after the other, on any memories

@@ -1,6 +1,4 @@
-use borrow.Author.Rules.{rules}
-use mathlib.Core.Path.{◌≡◌, sym, ◌∙◌}
-use lib.ListN.{length}
+use Rattle.std.proofs.Common.{rules, ◌≡◌, sym, ◌∙◌, length}
 use Rattle.arena.specs.Links.{reparented}
 use Rattle.arena.proofs.Laws.{reparented_none, reparented_zero, reparented_step}
 use Rattle.arena.proofs.links.reparent.Goals as goal

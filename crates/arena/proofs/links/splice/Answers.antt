@@ -1,9 +1,6 @@
-use mathlib.Core.Path.{◌≡◌}
-use mathlib.Core.List.{List}
-use Prim.Native.Nat.{ℕ}
+use Rattle.std.proofs.Common.{◌≡◌, List, ℕ, rules}
 use Rattle.lent.specs.Mem.{put_field, link, PREV, NEXT, FIRST, LAST}
 use Rattle.arena.specs.Links.{reparented, spliced}
-use borrow.Author.Rules.{rules}
 use Rattle.arena.proofs.links.splice.Goals as goal
 
 -- the calls, one after the other, on any memories

@@ -1,5 +1,5 @@
 use Rattle.arena.specs.Links.{unlinked}
-use borrow.Author.Rules.{rules}
+use Rattle.std.proofs.Common.{rules}
 use Rattle.arena.proofs.links.unlink.Goals as goal
 
 pub returns : goal.returns

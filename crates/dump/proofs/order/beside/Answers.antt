@@ -1,5 +1,4 @@
-use mathlib.Core.Path.{sym, ◌∙◌}
-use borrow.Author.Rules.{rules}
+use Rattle.std.proofs.Common.{sym, ◌∙◌, rules}
 use Rattle.dump.proofs.OrderLaws.{beside_contents, beside_other}
 use Rattle.dump.proofs.order.beside.Goals as goal
 

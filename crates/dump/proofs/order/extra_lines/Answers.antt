@@ -1,6 +1,4 @@
-use mathlib.Core.Path.{sym, ◌∙◌}
-use native.Mathlib.Omega.{arith}
-use borrow.Author.Rules.{rules}
+use Rattle.std.proofs.Common.{sym, ◌∙◌, arith, rules}
 use Rattle.dump.proofs.OrderLaws.{extra_plain, extra_contents}
 use Rattle.dump.proofs.order.extra_lines.Goals as goal
 

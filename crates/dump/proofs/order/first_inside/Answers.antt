@@ -1,5 +1,4 @@
-use mathlib.Core.Path.{sym, ◌∙◌}
-use borrow.Author.Rules.{rules}
+use Rattle.std.proofs.Common.{sym, ◌∙◌, rules}
 use Rattle.dump.proofs.OrderLaws.{inside_none, inside_some}
 use Rattle.dump.proofs.order.first_inside.Goals as goal
 

@@ -1,5 +1,4 @@
-use native.Mathlib.Omega.{arith}
-use borrow.Author.Rules.{rules}
+use Rattle.std.proofs.Common.{arith, rules}
 use Rattle.dump.specs.Order.{level_down}
 use Rattle.dump.proofs.order.level_down.Goals as goal
 

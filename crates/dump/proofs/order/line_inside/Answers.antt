@@ -1,5 +1,4 @@
-use mathlib.Core.Path.{sym, ◌∙◌}
-use borrow.Author.Rules.{rules}
+use Rattle.std.proofs.Common.{sym, ◌∙◌, rules}
 use Rattle.dump.proofs.OrderLaws.{after_contents, after_child, after_leaf}
 use Rattle.dump.proofs.order.line_inside.Goals as goal
 

@@ -1,5 +1,4 @@
-use mathlib.Core.Path.{sym, ◌∙◌}
-use borrow.Author.Rules.{rules}
+use Rattle.std.proofs.Common.{sym, ◌∙◌, rules}
 use Rattle.dump.proofs.OrderLaws.{up_contents, up_other}
 use Rattle.dump.proofs.order.up.Goals as goal
 

@@ -1,4 +1,4 @@
-use borrow.Author.Rules.{rules}
+use Rattle.std.proofs.Common.{rules}
 use Rattle.dump.proofs.WrittenLaws.{wrote_byte, wrote_past}
 use Rattle.dump.proofs.put.byte.Goals as goal
 

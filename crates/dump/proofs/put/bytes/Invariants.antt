@@ -1,9 +1,4 @@
-use mathlib.Core.Path.{◌≡◌, refl}
-use Prim.Native.Nat.{◌≤◌, ◌-◌}
-use native.Mathlib.Omega.{arith}
-use lib.ListN.{length, take}
-use lib.Seq.{take_all}
-use borrow.Author.Rules.{rules}
+use Rattle.std.proofs.Common.{◌≡◌, refl, ◌≤◌, ◌-◌, arith, length, take, take_all, rules}
 use Rattle.dump.specs.Written.{Wrote}
 use Rattle.dump.proofs.WrittenLaws.{wrote_none, wrote_next}
 use Rattle.dump.proofs.put.bytes.Given as goal

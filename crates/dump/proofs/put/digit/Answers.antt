@@ -1,4 +1,4 @@
-use borrow.Author.Rules.{rules}
+use Rattle.std.proofs.Common.{rules}
 use Rattle.dump.proofs.DigitsLaws.{digit_none, digit_one}
 use Rattle.dump.proofs.put.digit.Goals as goal
 

@@ -1,8 +1,4 @@
-use mathlib.Core.Path.{◌≡◌, refl, ap}
-use Prim.Native.Nat.{◌≤◌, ◌-◌}
-use native.Mathlib.Omega.{arith}
-use lib.ListN.{length}
-use borrow.Author.Rules.{rules}
+use Rattle.std.proofs.Common.{◌≡◌, refl, ap, ◌≤◌, ◌-◌, arith, length, rules}
 use Rattle.names.specs.Text.{text}
 use Rattle.dump.specs.Line.{indent}
 use Rattle.dump.specs.Written.{Wrote}

@@ -1,7 +1,4 @@
-use mathlib.Core.Path.{ap}
-use mathlib.Core.List.{[], ◌∷◌}
-use Prim.Native.Nat.{ℕ}
-use borrow.Author.Rules.{rules}
+use Rattle.std.proofs.Common.{ap, [], ◌∷◌, ℕ, rules}
 use Rattle.dump.specs.Digits.{digits}
 use Rattle.dump.proofs.WrittenLaws.{and_then, wrote_as}
 use Rattle.dump.proofs.put.number.Goals as goal

@@ -1,8 +1,4 @@
-use mathlib.Core.Path.{◌≡◌, refl, ap}
-use mathlib.Core.List.{List}
-use Prim.Native.Nat.{ℕ}
-use lib.ListN.{length}
-use borrow.Author.Rules.{rules}
+use Rattle.std.proofs.Common.{◌≡◌, refl, ap, List, ℕ, length, rules}
 use Rattle.names.specs.Text.{text}
 use Rattle.dump.specs.Line.{text_number, further}
 use Rattle.dump.specs.Written.{Wrote}

@@ -1,5 +1,4 @@
-use mathlib.Core.Path.{ap}
-use borrow.Author.Rules.{rules}
+use Rattle.std.proofs.Common.{ap, rules}
 use Rattle.dump.specs.Line.{text_of}
 use Rattle.dump.proofs.WrittenLaws.{wrote_as}
 use Rattle.dump.proofs.LineLaws.{node_element, node_text, node_comment, node_other}

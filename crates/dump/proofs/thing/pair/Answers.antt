@@ -1,5 +1,4 @@
-use mathlib.Core.Path.{ap}
-use borrow.Author.Rules.{rules}
+use Rattle.std.proofs.Common.{ap, rules}
 use Rattle.names.specs.Text.{text}
 use Rattle.dump.specs.Digits.{digits}
 use Rattle.dump.specs.Line.{pair_of, text_number}

@@ -1,5 +1,4 @@
-use mathlib.Core.Path.{sym}
-use borrow.Author.Rules.{rules}
+use Rattle.std.proofs.Common.{sym, rules}
 use Rattle.dump.proofs.PairLaws.{no_pair}
 use Rattle.dump.proofs.thing.pair_field.Goals as goal
 

@@ -1,7 +1,4 @@
-use mathlib.Core.Path.{ap, ◌∙◌}
-use Prim.Native.Nat.{ℕ, ◌+◌, ◌-◌}
-use native.Mathlib.Omega.{arith}
-use borrow.Author.Rules.{rules}
+use Rattle.std.proofs.Common.{ap, ◌∙◌, ℕ, ◌+◌, ◌-◌, arith, rules}
 use Rattle.names.specs.Text.{text}
 use Rattle.dump.specs.Line.{pair_of}
 use Rattle.dump.proofs.WrittenLaws.{wrote_as}

@@ -1,5 +1,4 @@
-use mathlib.Core.Path.{ap}
-use borrow.Author.Rules.{rules}
+use Rattle.std.proofs.Common.{ap, rules}
 use Rattle.dump.specs.Line.{text_number, further}
 use Rattle.dump.proofs.WrittenLaws.{and_then, wrote_as}
 use Rattle.dump.proofs.LineLaws.{text_none, text_some}

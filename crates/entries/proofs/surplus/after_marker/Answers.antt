@@ -1,8 +1,6 @@
 use Rattle.entries.proofs.SurplusLaws as laws
-use mathlib.Core.Path.{sym, ◌∙◌}
-use native.Mathlib.Omega.{arith}
+use Rattle.std.proofs.Common.{sym, ◌∙◌, arith, rules}
 use Rattle.places.proofs.Laws.{place_lt}
-use borrow.Author.Rules.{rules}
 use Rattle.entries.proofs.surplus.after_marker.Goals as goal
 
 pub overflow_add-result : goal.overflow_add-result

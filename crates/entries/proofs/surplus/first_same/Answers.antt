@@ -1,8 +1,4 @@
-use borrow.Author.Rules.{rules}
-use Prim.Native.Nat.{◌-◌, ◌≤◌}
-use mathlib.Core.Path.{◌≡◌, refl}
-use native.Mathlib.Omega.{arith}
-use lib.ListN.{take, drop}
+use Rattle.std.proofs.Common.{rules, ◌-◌, ◌≤◌, ◌≡◌, refl, arith, take, drop}
 use Rattle.places.specs.Places.{first_of, first_with}
 use Rattle.places.proofs.Laws.{first_none}
 use Rattle.places.proofs.First.{first_turn, first_end}

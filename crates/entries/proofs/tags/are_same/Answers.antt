@@ -1,8 +1,5 @@
 use Rattle.entries.proofs.TagLaws as laws
-use borrow.Author.Rules.{rules}
-use Prim.Native.Nat.{◌+◌, ◌-◌, ◌≤◌}
-use mathlib.Core.Path.{◌≡◌}
-use native.Mathlib.Omega.{arith}
+use Rattle.std.proofs.Common.{rules, ◌+◌, ◌-◌, ◌≤◌, ◌≡◌, arith}
 use Rattle.standard.specs.Pairs.{pairs_in}
 use Rattle.standard.specs.Formatting.{pairs_of, same_pairs}
 use Rattle.entries.proofs.tags.are_same.Goals as goal

@@ -1,10 +1,5 @@
-use borrow.Author.Rules.{rules}
-use borrow.Author.Tests.{not-true, not-false}
-use Prim.Native.Nat.{◌≤◌, ◌-◌}
-use mathlib.Core.Path.{◌≡◌, refl}
-use mathlib.Core.List.{[]}
-use native.Mathlib.Omega.{arith}
-use lib.ListN.{length, take, replicate}
+use Rattle.std.proofs.Common.{rules, ◌≤◌, ◌-◌, ◌≡◌, refl, [], arith, length, take, replicate}
+use Rattle.std.proofs.lemmas.Bool.{not-true, not-false}
 use Rattle.standard.specs.Pairs.{pairs_in, fine}
 use Rattle.insertion.proofs.PairsLaws.{fine_start, fine_turn, fine_end, fine_stop, fine_again}
 use Rattle.insertion.proofs.pairs.are_fine.Goals as goal

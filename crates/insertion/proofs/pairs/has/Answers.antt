@@ -1,9 +1,4 @@
-use borrow.Author.Rules.{rules}
-use Prim.Native.Nat.{ℕ, ◌≤◌, ◌-◌}
-use mathlib.Core.Path.{◌≡◌, refl, sym, ◌∙◌, ap}
-use mathlib.Core.Bool.{false}
-use native.Mathlib.Omega.{arith}
-use lib.ListN.{take}
+use Rattle.std.proofs.Common.{rules, ℕ, ◌≤◌, ◌-◌, ◌≡◌, refl, sym, ◌∙◌, ap, false, arith, take}
 use Rattle.names.specs.Sets.{member}
 use Rattle.insertion.proofs.PairsLaws.{member_more, member_hit}
 use Rattle.insertion.proofs.pairs.has.Goals as goal

@@ -1,8 +1,4 @@
-use borrow.Author.Rules.{rules}
-use Prim.Native.Nat.{◌≤◌, ◌-◌, ◌+◌}
-use mathlib.Core.Path.{◌≡◌, refl}
-use native.Mathlib.Omega.{arith}
-use lib.ListN.{length}
+use Rattle.std.proofs.Common.{rules, ◌≤◌, ◌-◌, ◌+◌, ◌≡◌, refl, arith, length}
 use Rattle.standard.specs.Pairs.{pairs_in, stored}
 use Rattle.insertion.proofs.PairsLaws.{stored_start, stored_turn, stored_end}
 use Rattle.insertion.proofs.pairs.store.Goals as goal

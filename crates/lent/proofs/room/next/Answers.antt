@@ -1,6 +1,5 @@
-use borrow.Author.Tests.{lt-ltb, le-ltb}
+use Rattle.std.proofs.Common.{lt-ltb, le-ltb, rules}
 use Rattle.lent.specs.Room.{fresh}
-use borrow.Author.Rules.{rules}
 use Rattle.lent.proofs.room.next.Goals as goal
 
 pub returns-then-used-lt65535 : goal.returns-then-used-lt65535

@@ -1,7 +1,5 @@
-use mathlib.Core.Path.{sym, ◌∙◌}
-use borrow.Author.Tests.{eq-eqb, ne_eqb}
+use Rattle.std.proofs.Common.{sym, ◌∙◌, eq-eqb, ne_eqb, rules}
 use Rattle.lent.specs.Mem.{up}
-use borrow.Author.Rules.{rules}
 use Rattle.lent.proofs.wide.up.Goals as goal
 
 pub returns-then-k-eq5 : goal.returns-then-k-eq5

@@ -1,6 +1,5 @@
-use mathlib.Core.Path.{◌∙◌}
+use Rattle.std.proofs.Common.{◌∙◌, rules}
 use Rattle.location.proofs.Laws as laws
-use borrow.Author.Rules.{rules}
 use Rattle.location.proofs.place.before_table.Goals as goal
 
 pub returns-then-is_html : goal.returns-then-is_html

@@ -1,8 +1,6 @@
-use mathlib.Core.Path.{◌∙◌, sym}
-use native.Mathlib.Omega.{arith}
+use Rattle.std.proofs.Common.{◌∙◌, sym, arith, rules}
 use Rattle.places.proofs.Laws.{at_of, last_with_lt}
 use Rattle.location.proofs.Laws as laws
-use borrow.Author.Rules.{rules}
 use Rattle.location.proofs.place.foster_place.Goals as goal
 
 pub template_or_table-requires : goal.template_or_table-requires

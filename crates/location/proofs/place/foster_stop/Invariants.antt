@@ -1,7 +1,4 @@
-use borrow.Author.Rules.{rules}
-use Prim.Native.Nat.{◌≤◌}
-use mathlib.Core.Path.{◌≡◌, refl, sym, ◌∙◌}
-use native.Mathlib.Omega.{arith}
+use Rattle.std.proofs.Common.{rules, ◌≤◌, ◌≡◌, refl, sym, ◌∙◌, arith}
 use Rattle.places.specs.Places.{down, never}
 use Rattle.places.proofs.Laws.{down_none, down_hit, down_on, last_with_of}
 use Rattle.standard.specs.Place.{is_foster_stop}

@@ -1,11 +1,6 @@
-use Prim.Native.Nat.{ℕ, ◌-◌}
-use mathlib.Core.Path.{ap}
-use lib.ListN.{get_or}
-use mathlib.Core.Path.{◌∙◌, sym}
+use Rattle.std.proofs.Common.{ℕ, ◌-◌, ap, get_or, ◌∙◌, sym, arith, rules}
 use Rattle.places.proofs.Laws.{at_of}
-use native.Mathlib.Omega.{arith}
 use Rattle.location.proofs.Laws as laws
-use borrow.Author.Rules.{rules}
 use Rattle.location.proofs.place.table_place.Goals as goal
 
 pub returns-then-get-eq-NONE : goal.returns-then-get-eq-NONE

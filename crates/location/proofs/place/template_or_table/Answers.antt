@@ -1,8 +1,6 @@
-use mathlib.Core.Path.{◌∙◌, sym}
+use Rattle.std.proofs.Common.{◌∙◌, sym, arith, rules}
 use Rattle.places.proofs.Laws.{at_of}
-use native.Mathlib.Omega.{arith}
 use Rattle.location.proofs.Laws as laws
-use borrow.Author.Rules.{rules}
 use Rattle.location.proofs.place.template_or_table.Goals as goal
 
 pub returns-then-is_html : goal.returns-then-is_html

@@ -1,5 +1,5 @@
 use Rattle.location.proofs.Laws as laws
-use borrow.Author.Rules.{rules}
+use Rattle.std.proofs.Common.{rules}
 use Rattle.location.proofs.place.text_before.Goals as goal
 
 pub returns-then-b-eq-NONE : goal.returns-then-b-eq-NONE

@@ -1,5 +1,5 @@
 use Rattle.makers.specs.Make.{copied}
-use borrow.Author.Rules.{rules}
+use Rattle.std.proofs.Common.{rules}
 use Rattle.makers.proofs.make.copy_element.Goals as goal
 
 pub returns : goal.returns

@@ -1,5 +1,5 @@
 use Rattle.makers.specs.Make.{document}
-use borrow.Author.Rules.{rules}
+use Rattle.std.proofs.Common.{rules}
 use Rattle.makers.proofs.make.make_document.Goals as goal
 
 pub returns : goal.returns

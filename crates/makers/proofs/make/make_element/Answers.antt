@@ -1,6 +1,5 @@
-use mathlib.Core.Path.{sym, ◌∙◌}
+use Rattle.std.proofs.Common.{sym, ◌∙◌, rules}
 use Rattle.makers.proofs.Laws.{element_plain, element_template}
-use borrow.Author.Rules.{rules}
 use Rattle.makers.proofs.make.make_element.Goals as goal
 
 pub returns-then-is_template : goal.returns-then-is_template

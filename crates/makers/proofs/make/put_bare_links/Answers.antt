@@ -1,5 +1,5 @@
 use Rattle.makers.specs.Make.{bare_links}
-use borrow.Author.Rules.{rules}
+use Rattle.std.proofs.Common.{rules}
 use Rattle.makers.proofs.make.put_bare_links.Goals as goal
 
 pub returns : goal.returns

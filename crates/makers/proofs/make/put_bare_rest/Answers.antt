@@ -1,9 +1,6 @@
-use mathlib.Core.Path.{◌≡◌}
-use mathlib.Core.List.{List}
-use Prim.Native.Nat.{ℕ}
+use Rattle.std.proofs.Common.{◌≡◌, List, ℕ, rules}
 use Rattle.lent.specs.Mem.{put_field, SPACE, NAME, MARK, START, COUNT, PIECE, END}
 use Rattle.makers.specs.Make.{bare_rest}
-use borrow.Author.Rules.{rules}
 use Rattle.makers.proofs.make.put_bare_rest.Goals as goal
 
 -- the calls, one after the other, on any memories

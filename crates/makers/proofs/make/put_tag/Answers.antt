@@ -1,5 +1,5 @@
 use Rattle.makers.specs.Make.{tagged}
-use borrow.Author.Rules.{rules}
+use Rattle.std.proofs.Common.{rules}
 use Rattle.makers.proofs.make.put_tag.Goals as goal
 
 pub returns : goal.returns

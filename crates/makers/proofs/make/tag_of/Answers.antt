@@ -1,5 +1,5 @@
 use Rattle.makers.specs.Make.{tag_of}
-use borrow.Author.Rules.{rules}
+use Rattle.std.proofs.Common.{rules}
 use Rattle.makers.proofs.make.tag_of.Goals as goal
 
 pub returns : goal.returns

@@ -1,5 +1,4 @@
-use mathlib.Core.Path.{◌∙◌}
-use borrow.Author.Rules.{rules}
+use Rattle.std.proofs.Common.{◌∙◌, rules}
 use Rattle.names.specs.Sets.{the_button_scope}
 use Rattle.names.proofs.InWords.{right}
 use Rattle.names.proofs.sets.in_button_scope.Goals as goal

@@ -1,5 +1,4 @@
-use mathlib.Core.Path.{◌∙◌}
-use borrow.Author.Rules.{rules}
+use Rattle.std.proofs.Common.{◌∙◌, rules}
 use Rattle.names.specs.Sets.{the_math_text_points}
 use Rattle.names.proofs.InWords.{right}
 use Rattle.names.proofs.sets.is_mathml_text_integration_point.Goals as goal

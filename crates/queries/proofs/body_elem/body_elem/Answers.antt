@@ -1,8 +1,7 @@
-use mathlib.Core.Path.{refl}
-use borrow.Author.Tests.{not-true, not-false}
+use Rattle.std.proofs.Common.{refl, rules}
+use Rattle.std.proofs.lemmas.Bool.{not-true, not-false}
 use Rattle.edge.proofs.Laws.{checked_no, checked_yes}
 use Rattle.queries.proofs.QueryLaws as laws
-use borrow.Author.Rules.{rules}
 use Rattle.queries.proofs.body_elem.body_elem.Goals as goal
 
 pub returns : goal.returns

@@ -1,5 +1,5 @@
 use Rattle.queries.proofs.QueryLaws as laws
-use borrow.Author.Rules.{rules}
+use Rattle.std.proofs.Common.{rules}
 use Rattle.queries.proofs.body_elem.give.Goals as goal
 
 pub returns-in-At : goal.returns-in-At

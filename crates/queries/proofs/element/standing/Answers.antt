@@ -1,5 +1,5 @@
 use Rattle.queries.proofs.ElementLaws as laws
-use borrow.Author.Rules.{rules}
+use Rattle.std.proofs.Common.{rules}
 use Rattle.queries.proofs.element.standing.Goals as goal
 
 pub returns-then-k-ne0 : goal.returns-then-k-ne0

@@ -1,5 +1,5 @@
 use Rattle.queries.proofs.ForeignLaws as laws
-use borrow.Author.Rules.{rules}
+use Rattle.std.proofs.Common.{rules}
 use Rattle.queries.proofs.foreign.adjusted_current_node.Goals as goal
 
 pub returns : goal.returns

@@ -1,7 +1,5 @@
-use mathlib.Core.Path.{ap}
-use mathlib.Core.Bool.{not}
+use Rattle.std.proofs.Common.{ap, not, rules}
 use Rattle.queries.proofs.ForeignLaws as laws
-use borrow.Author.Rules.{rules}
 use Rattle.queries.proofs.foreign.is_for_html_point.Goals as goal
 
 pub returns-then-not-is_html_integration_point : goal.returns-then-not-is_html_integration_point

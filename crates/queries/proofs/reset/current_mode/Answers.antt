@@ -1,7 +1,5 @@
-use native.Mathlib.Omega.{arith}
-use Prim.Native.Nat.{◌-◌}
+use Rattle.std.proofs.Common.{arith, ◌-◌, rules}
 use Rattle.queries.proofs.ResetLaws as laws
-use borrow.Author.Rules.{rules}
 use Rattle.queries.proofs.reset.current_mode.Goals as goal
 
 pub returns-then-count-eq0 : goal.returns-then-count-eq0

@@ -1,4 +1,4 @@
-use mathlib.Core.Path.{refl}
+use Rattle.std.proofs.Common.{refl}
 use Rattle.names.specs.Tag as tag
 use Rattle.queries.specs.Reset.{mode_for}
 use Rattle.queries.proofs.ResetLaws as laws

@@ -1,7 +1,4 @@
-use borrow.Author.Rules.{rules}
-use native.Mathlib.Omega.{arith}
-use mathlib.Core.Path.{◌≡◌, refl}
-use Prim.Native.Nat.{◌≤◌}
+use Rattle.std.proofs.Common.{rules, arith, ◌≡◌, refl, ◌≤◌}
 use Rattle.places.specs.Places.{places_of}
 use Rattle.queries.specs.Reset.{walked}
 use Rattle.queries.proofs.ResetLaws as laws

@@ -1,8 +1,7 @@
 use Rattle.queries.specs.declared.tokenizer.Start.TheVariants.{Data, Rcdata, Rawtext, ScriptData, Plaintext}
-use mathlib.Core.Path.{refl}
+use Rattle.std.proofs.Common.{refl, rules}
 use Rattle.queries.specs.Tokenizer.{given}
 use Rattle.queries.proofs.TokenizerLaws as laws
-use borrow.Author.Rules.{rules}
 use Rattle.queries.proofs.tokenizer.give.Goals as goal
 
 pub returns-in-Data : goal.returns-in-Data

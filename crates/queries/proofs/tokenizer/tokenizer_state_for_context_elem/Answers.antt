@@ -1,8 +1,7 @@
-use mathlib.Core.Path.{refl}
-use borrow.Author.Tests.{not-true, not-false}
+use Rattle.std.proofs.Common.{refl, rules}
+use Rattle.std.proofs.lemmas.Bool.{not-true, not-false}
 use Rattle.edge.proofs.Laws.{checked_no, checked_yes}
 use Rattle.queries.proofs.QueryLaws as laws
-use borrow.Author.Rules.{rules}
 use Rattle.queries.proofs.tokenizer.tokenizer_state_for_context_elem.Goals as goal
 
 pub returns-then-scripting-gt1 : goal.returns-then-scripting-gt1

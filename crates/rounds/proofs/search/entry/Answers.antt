@@ -1,8 +1,5 @@
 use Rattle.rounds.proofs.SearchLaws as laws
-use borrow.Author.Rules.{rules}
-use Prim.Native.Nat.{◌≤◌}
-use mathlib.Core.Path.{◌≡◌, refl}
-use native.Mathlib.Omega.{arith}
+use Rattle.std.proofs.Common.{rules, ◌≤◌, ◌≡◌, refl, arith}
 use Rattle.places.specs.Places.{same, down}
 use Rattle.standard.specs.Small.{MARKER}
 use Rattle.standard.specs.Stack.{named}

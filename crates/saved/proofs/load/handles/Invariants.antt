@@ -1,5 +1,4 @@
-use borrow.Author.Rules.{rules}
-use Prim.Native.Nat.{◌≤◌, ◌-◌}
+use Rattle.std.proofs.Common.{rules, ◌≤◌, ◌-◌}
 use Rattle.saved.proofs.load.handles.Given as goal
 
 abbrev pub invariant-loop-k : goal.invariant-loop-k

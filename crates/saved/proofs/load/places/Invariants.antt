@@ -1,7 +1,4 @@
-use borrow.Author.Rules.{rules}
-use Prim.Native.Nat.{◌≤◌, ◌-◌}
-use mathlib.Core.Path.{◌≡◌}
-use lib.ListN.{length}
+use Rattle.std.proofs.Common.{rules, ◌≤◌, ◌-◌, ◌≡◌, length}
 use Rattle.saved.proofs.load.places.Given as goal
 
 abbrev pub invariant-loop-k : goal.invariant-loop-k

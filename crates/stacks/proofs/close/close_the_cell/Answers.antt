@@ -1,8 +1,7 @@
 use Rattle.stacks.proofs.StackLaws as laws
 use Rattle.stacks.specs.Walk.{names_of, wanted_in}
-use native.Mathlib.Omega.{arith}
+use Rattle.std.proofs.Common.{arith, rules}
 use Rattle.state.specs.Fields.{set_depth}
-use borrow.Author.Rules.{rules}
 use Rattle.stacks.proofs.close.close_the_cell.Goals as goal
 
 pub cut_at-size-requires : goal.cut_at-size-requires

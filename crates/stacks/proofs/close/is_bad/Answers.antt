@@ -1,7 +1,5 @@
-use mathlib.Core.Path.{ap}
-use mathlib.Core.Bool.{not}
+use Rattle.std.proofs.Common.{ap, not, rules}
 use Rattle.stacks.proofs.StackLaws as laws
-use borrow.Author.Rules.{rules}
 use Rattle.stacks.proofs.close.is_bad.Goals as goal
 
 pub returns-then-not-is_name : goal.returns-then-not-is_name

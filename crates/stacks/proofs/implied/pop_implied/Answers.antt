@@ -1,10 +1,6 @@
-use borrow.Author.Rules.{rules}
+use Rattle.std.proofs.Common.{rules, ◌≤◌, ◌≡◌, refl, sym, ◌∙◌, arith, length}
 use Rattle.stacks.proofs.StackLaws as laws
-use Prim.Native.Nat.{◌≤◌}
-use mathlib.Core.Path.{◌≡◌, refl, sym, ◌∙◌}
-use native.Mathlib.Omega.{arith}
-use borrow.Author.Tests.{not-true, not-false}
-use lib.ListN.{length}
+use Rattle.std.proofs.lemmas.Bool.{not-true, not-false}
 use Rattle.places.specs.Places.{places_of}
 use Rattle.standard.specs.Stack.{is_implied, while_top}
 use Rattle.stacks.specs.Walk.{names_of}

@@ -1,8 +1,5 @@
-use borrow.Author.Rules.{rules}
+use Rattle.std.proofs.Common.{rules, ◌≤◌, ◌≡◌, refl, arith}
 use Rattle.stacks.proofs.StackLaws as laws
-use Prim.Native.Nat.{◌≤◌}
-use mathlib.Core.Path.{◌≡◌, refl}
-use native.Mathlib.Omega.{arith}
 use Rattle.places.specs.Places.{down}
 use Rattle.standard.specs.Stack.{is_of}
 use Rattle.stacks.specs.Walk.{names_of, wanted_in}

@@ -1,4 +1,4 @@
-use borrow.Author.Rules.{rules}
+use Rattle.std.proofs.Common.{rules}
 use Rattle.state.specs.Fields.{set_depth}
 use Rattle.state.proofs.Core.with_depth.Goals as goal
 

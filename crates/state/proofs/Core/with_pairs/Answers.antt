@@ -1,4 +1,4 @@
-use borrow.Author.Rules.{rules}
+use Rattle.std.proofs.Common.{rules}
 use Rattle.state.specs.Fields.{set_pairs, set_counts}
 use Rattle.state.proofs.Core.with_pairs.Goals as goal
 

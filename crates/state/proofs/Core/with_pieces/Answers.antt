@@ -1,4 +1,4 @@
-use borrow.Author.Rules.{rules}
+use Rattle.std.proofs.Common.{rules}
 use Rattle.state.specs.Fields.{set_pieces, set_counts}
 use Rattle.state.proofs.Core.with_pieces.Goals as goal
 

@@ -1,4 +1,4 @@
-use borrow.Author.Rules.{rules}
+use Rattle.std.proofs.Common.{rules}
 use Rattle.state.specs.Fields.{core_of}
 use Rattle.state.proofs.State.core.Goals as goal
 

@@ -1,8 +1,4 @@
-use borrow.Author.Rules.{rules}
-use Prim.Native.Nat.{ℕ}
-use mathlib.Core.Path.{◌≡◌}
-use mathlib.Core.List.{List}
-use lib.ListN.{replicate}
+use Rattle.std.proofs.Common.{rules, ℕ, ◌≡◌, List, replicate}
 use Rattle.state.specs.declared.State.{State}
 use Rattle.state.specs.declared.Context.TheVariants.{None}
 use Rattle.state.specs.Fields.{empty_state}

@@ -1,4 +1,4 @@
-use borrow.Author.Rules.{rules}
+use Rattle.std.proofs.Common.{rules}
 use Rattle.state.specs.Fields.{state_of}
 use Rattle.state.proofs.State.with_core.Goals as goal
 

@@ -1,4 +1,4 @@
-use borrow.Author.Tests.{eq-eqb, ne_eqb}
+use Rattle.std.proofs.Common.{eq-eqb, ne_eqb}
 use Rattle.makers.specs.Make.{is_template}
 use Rattle.makers.proofs.make.Tag.is_template.Goals as goal
 
