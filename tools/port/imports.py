@@ -29,7 +29,8 @@ def listed():
     names = set()
     for group in re.findall(r'(?m)^pub use \S+\.\{([^}]*)\}', read(COMMON)):
         names |= {word.strip() for word in group.split(',')}
-    return names
+    # std's type and not the logic's
+    return names - {'String'}
 
 
 def home(module):

@@ -2,7 +2,7 @@
 -- the last of them. All of it is what the definitions give: of begin, of runs, of the dump and of the reset of the insertion mode.
 -- Assumes nothing.
 use Rattle.std.specs.Prelude.{ℕ, zero, suc, ◌-◌, ◌*◌, ◌≡◌, Bool, true, false, cond, List, [], ◌∷◌, ◌++◌, length, take, replicate, eqb}
-use Rattle.std.proofs.Common.{String}
+use Prim.Native.String.{String}
 use Rattle.names.specs.Text.{text}
 use Rattle.records.specs.Written.{encoded_all}
 use Rattle.state.specs.declared.Context.{Context}

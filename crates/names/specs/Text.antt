@@ -2,8 +2,7 @@
 -- Assumes nothing.
 use Rattle.std.specs.Prelude.{ℕ, Bool, true, false, ◌&&◌, List, [], ◌∷◌, eqb}
 use Prim.Native.Char.{code}
-use Rattle.std.proofs.Common.{String}
-use Prim.Native.String.{[] as []ˢ, ◌∷◌ as ◌∷ˢ◌}
+use Prim.Native.String.{String, [] as []ˢ, ◌∷◌ as ◌∷ˢ◌}
 
 unfoldable pub text : String → List ℕ
 text []ˢ = []

@@ -1,6 +1,7 @@
 -- A tree with every kind of line, computed: a template with an attribute, a text in its contents, and a comment as its own child.
 -- Assumes nothing.
-use Rattle.std.proofs.Common.{ℕ, ◌/◌, ◌%◌, String, ◌≡◌, refl, List, [], ◌∷◌, ◌++◌}
+use Rattle.std.proofs.Common.{ℕ, ◌/◌, ◌%◌, ◌≡◌, refl, List, [], ◌∷◌, ◌++◌}
+use Prim.Native.String.{String}
 use Rattle.std.proofs.Math.Decide.{ℕ_discrete}
 use Rattle.names.specs.Table.{names}
 use Rattle.names.specs.Tag as tag
