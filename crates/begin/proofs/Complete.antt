@@ -1,4 +1,4 @@
--- The promise of `begin` allows one result_of only: answer, record, nodes and modes.
+-- The promise of `begin` allows one result only: answer, record, nodes and modes.
 -- Assumes nothing.
 use Rattle.std.proofs.Common.{ℕ, ◌≡◌, ap, sym, ◌∙◌, List}
 use Rattle.state.specs.declared.State.{State}

@@ -1,4 +1,4 @@
--- The promises of `run` and `call` allow one result_of only: answer, record and every lent slice.
+-- The promises of `run` and `call` allow one result only: answer, record and every lent slice.
 -- Assumes nothing.
 use Rattle.std.proofs.Common.{ℕ, ◌-◌, ◌≡◌, ap, sym, ◌∙◌, List}
 use Rattle.state.specs.declared.State.{State}

@@ -1,4 +1,4 @@
--- Each public promise allows one result_of only: what the call gives back, the record in it, and every slice that a host can lend.
+-- Each public promise allows one result only: what the call gives back, the record in it, and every slice that a host can lend.
 -- Assumes nothing.
 use Rattle.std.proofs.Common.{ℕ, ◌≡◌, sym, ◌∙◌, List}
 use Rattle.state.specs.declared.State.{State}

@@ -128,6 +128,6 @@ pub data OneOf : Names → Type 0 where
   the_math_text_points : OneOf MathTextPoints
   the_svg_points : OneOf SvgPoints
 
--- HTML integration points (the standard, 13.2.6): the SVG ones, and a MathML annotation_xml with the mark 1
+-- HTML integration points (the standard, 13.2.6): the SVG ones, and a MathML annotation-xml with the mark 1
 unfoldable pub is_html_point : ℕ → ℕ → ℕ → Bool
 is_html_point ns n mark = is_in SvgPoints ns n || (eqb ns space.mathml && (eqb n tag.annotation_xml && eqb mark 1))

@@ -86,7 +86,7 @@ fn is_svg_point(ns: u16, n: u16) -> bool
     has(&words::SVG_POINTS, ns, n)
 }
 
-// The mark is 1 on an annotation_xml whose encoding makes it such a point.
+// The mark is 1 on an annotation-xml whose encoding makes it such a point.
 pub fn is_html_integration_point(ns: u16, n: u16, mark: u16) -> bool
     ensures { result ≡ is_html_point ns n mark }
 {

@@ -46,7 +46,7 @@ pub record Span (m q : List ℕ) (u x : ℕ) : Type 0 where
   pub distinct : Distinct q (field m x START) (field m x COUNT)
 
 -- a namespace, a name and a mark that an element or the fragment context may have: the namespace is one of the three, the
--- name is the table's or the host's, and only a MathML `annotation_xml` may be marked
+-- name is the table's or the host's, and only a MathML `annotation-xml` may be marked
 pub record Tag (ns name mark : ℕ) : Type 0 where
   pub spaced : ns < space.limit
   pub named : is_name name ≡ true

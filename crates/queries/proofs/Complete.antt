@@ -1,4 +1,4 @@
--- Each question's promise allows one result_of only: its answer and its value.
+-- Each question's promise allows one result only: its answer and its value.
 -- Assumes nothing.
 use Rattle.std.proofs.Common.{ℕ, ◌≡◌, List}
 use Rattle.sound.specs.State.{SoundFull}

@@ -56,7 +56,7 @@ module _ (e : Expanded) (kind name : ℕ) {b : Bool} (eb : b ≡ is_in MathTextP
     unfolding for_text_point is_plain_start is_characters
     text_start k n = rw (sym eb ∙ not-false b h, k, ne_eqb name tag.mglyph n) (sym (or-false (not (eqb name tag.malignmark))))
 
--- ---- MathML annotation_xml
+-- ---- MathML annotation-xml
 
 module _ (e : Expanded) (kind name : ℕ) where
   pub annotation_space : (e.space ≡ space.mathml → ⊥) → false ≡ for_annotation e kind name

@@ -45,7 +45,7 @@ is_plain_start kind name = eqb kind START_TAG && not (eqb name tag.mglyph || eqb
 unfoldable pub for_text_point : Expanded → ℕ → ℕ → Bool
 for_text_point e kind name = is_in MathTextPoints e.space e.name && (is_plain_start kind name || is_characters kind)
 
--- Row 5: it is a MathML annotation_xml element, and the token is a start tag whose tag name is svg.
+-- Row 5: it is a MathML annotation-xml element, and the token is a start tag whose tag name is svg.
 unfoldable pub for_annotation : Expanded → ℕ → ℕ → Bool
 for_annotation e kind name = (eqb e.space space.mathml && eqb e.name tag.annotation_xml) && (eqb kind START_TAG && eqb name tag.svg)
 

@@ -69,7 +69,7 @@ fn is_for_text_point(e: Expanded, kind: u16, name: u16) -> bool
     name != tag::MALIGNMARK
 }
 
-// MathML annotation_xml, and the start of an svg.
+// MathML annotation-xml, and the start of an svg.
 fn is_for_annotation(e: Expanded, kind: u16, name: u16) -> bool
     ensures { result ≡ for_annotation e kind name }
 {

@@ -17,7 +17,7 @@ use Rattle.standard.specs.Insertion.{is_markable}
 abbrev pub IN_TEMPLATE : ℕ
 IN_TEMPLATE = 16
 
--- a mark is 0, or 1 on MathML annotation_xml
+-- a mark is 0, or 1 on MathML annotation-xml
 unfoldable pub bad_mark : ℕ → ℕ → ℕ → Bool
 bad_mark ns name mark = cond (eqb mark 0) false (not (eqb mark 1 && is_markable ns name))
 

@@ -25,7 +25,7 @@ usual_place f = appropriate_place f.nodes.mem f.stack f.flags.foster (current f.
 abbrev pub pushes : ℕ → Bool
 pushes flags = eqb (flags % 2) 1
 
--- a mark is for MathML annotation_xml alone
+-- a mark is for MathML annotation-xml alone
 unfoldable pub is_markable : ℕ → ℕ → Bool
 is_markable ns name = eqb ns space.mathml && eqb name tag.annotation_xml
 
