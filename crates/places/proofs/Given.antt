@@ -2,7 +2,7 @@
 -- are: after an entry has left, or all from an entry on have, what was in use and no longer is holds 0, every place past those holds
 -- what it held, there are as many places as before, and the entries that stay keep their order.
 -- Assumes nothing.
-use Rattle.std.proofs.Common.{ℕ, zero, ◌+◌, ◌-◌, ◌≤◌, ◌<◌, ◌≡◌, refl, ap, sym, ◌∙◌, List, ◌∷◌, ◌++◌, arith, length, get_or, take, drop, replicate, length-append, length-take, length-drop, take-append-drop, get_or-take, get_or-drop, get_or-append-add, length-take-le}
+use Rattle.std.proofs.Common.{ℕ, ◌+◌, ◌-◌, ◌≤◌, ◌<◌, ◌≡◌, refl, ap, sym, ◌∙◌, List, ◌∷◌, ◌++◌, arith, length, get_or, take, drop, replicate, length-append, length-take, length-drop, take-append-drop, get_or-take, get_or-drop, get_or-append-add, length-take-le}
 use Rattle.std.proofs.Math.ListN.{length-replicate, get_or-replicate, get_or-append}
 use Rattle.places.specs.declared.Found.{Found}
 use Rattle.places.specs.declared.Found.TheVariants.{At, Nothing}

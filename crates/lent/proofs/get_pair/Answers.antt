@@ -1,4 +1,4 @@
-use Rattle.std.proofs.Common.{sym, ◌∙◌, rules}
+use Rattle.std.proofs.Common.{sym, ◌∙◌}
 use Rattle.lent.specs.Mem.{PAIRS}
 use Rattle.lent.proofs.Kit.{load_below, load_past}
 use Rattle.lent.proofs.get_pair.Goals as goal

@@ -1,5 +1,4 @@
 use Rattle.lent.proofs.Kit.{link_none, link_some}
-use Rattle.std.proofs.Common.{rules}
 use Rattle.lent.proofs.put_link.Goals as goal
 
 pub returns-then-n-eq-NONE : goal.returns-then-n-eq-NONE

@@ -1,4 +1,4 @@
-use Rattle.std.proofs.Common.{sym, ◌∙◌, rules}
+use Rattle.std.proofs.Common.{sym, ◌∙◌}
 use Rattle.lent.specs.Mem.{PIECES}
 use Rattle.lent.proofs.Kit.{store_below, store_past}
 use Rattle.lent.proofs.put_piece.Goals as goal

@@ -1,6 +1,5 @@
-use Rattle.std.proofs.Common.{◌≡◌, refl, sym, ◌∙◌, ◌-◌, ◌≤◌, add-one, arith, length, drop, rules}
-use Rattle.names.specs.Text.{same}
-use Rattle.names.proofs.Find.{bytes_differ, bytes_equal, ended_right, ended_left}
+use Rattle.std.proofs.Common.{sym, ◌∙◌, arith}
+use Rattle.names.proofs.Find.{ended_right, ended_left}
 use Rattle.names.proofs.is_same.Goals as goal
 
 pub returns-then-b-i : goal.returns-then-b-i

@@ -1,7 +1,5 @@
-use Rattle.std.proofs.Common.{◌≡◌, refl, sym, ◌∙◌, ap, ◌-◌, ◌≤◌, add-one, arith, drop, rules}
+use Rattle.std.proofs.Common.{sym, ◌∙◌, ap, add-one, arith}
 use Rattle.names.specs.Text.{same}
-use Rattle.names.specs.Table.{limit}
-use Rattle.names.specs.Numbers.{rows, bytes_of, place, number_of}
 use Rattle.names.proofs.Find.{scan_hit, scan_miss, scan_past}
 use Rattle.names.proofs.lookup_in.Goals as goal
 

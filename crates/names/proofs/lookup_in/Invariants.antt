@@ -1,8 +1,6 @@
-use Rattle.std.proofs.Common.{◌≡◌, refl, sym, ◌∙◌, ap, ◌-◌, ◌≤◌, add-one, arith, drop, rules}
-use Rattle.names.specs.Text.{same}
+use Rattle.std.proofs.Common.{◌≡◌, ◌-◌, ◌≤◌, drop}
 use Rattle.names.specs.Table.{limit}
-use Rattle.names.specs.Numbers.{rows, bytes_of, place, number_of}
-use Rattle.names.proofs.Find.{scan_hit, scan_miss, scan_past}
+use Rattle.names.specs.Numbers.{rows, place, number_of}
 use Rattle.names.proofs.lookup_in.Given as goal
 
 abbrev pub invariant-loop-n : goal.invariant-loop-n

@@ -1,4 +1,4 @@
-use Rattle.std.proofs.Common.{◌≡◌, ◌∙◌, ap, List, ℕ, ◌+◌, ◌-◌, ◌≤◌, arith, length, get_or, take, drop, rules}
+use Rattle.std.proofs.Common.{◌≡◌, ◌∙◌, ap, List, ℕ, ◌+◌, ◌-◌, ◌≤◌, arith, length, get_or, take, drop}
 use Rattle.names.specs.Table.{limit}
 use Rattle.names.specs.Numbers.{rows, bytes_of}
 use Rattle.names.specs.Flat.{flat, start_of, sums}

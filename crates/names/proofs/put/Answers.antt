@@ -1,4 +1,4 @@
-use Rattle.std.proofs.Common.{◌≡◌, refl, sym, ◌∙◌, ap, ◌+◌, ◌-◌, ◌≤◌, add-one, arith, length, length-set, rules}
+use Rattle.std.proofs.Common.{◌≡◌, refl, sym, ◌∙◌, ap, ◌+◌, ◌≤◌, add-one, arith, length, length-set}
 use Rattle.names.proofs.Placed.{begun, put_at_over, after_put_over, after_put_fits, begun_none, begun_next, begun_all}
 use Rattle.names.proofs.put.Goals as goal
 

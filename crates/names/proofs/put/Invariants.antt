@@ -1,5 +1,5 @@
-use Rattle.std.proofs.Common.{◌≡◌, refl, sym, ◌∙◌, ap, ◌+◌, ◌-◌, ◌≤◌, add-one, arith, length, length-set, rules}
-use Rattle.names.proofs.Placed.{begun, put_at_over, after_put_over, after_put_fits, begun_none, begun_next, begun_all}
+use Rattle.std.proofs.Common.{◌≡◌, ◌-◌, ◌≤◌, length}
+use Rattle.names.proofs.Placed.{begun}
 use Rattle.names.proofs.put.Given as goal
 
 abbrev pub invariant-loop-i : goal.invariant-loop-i

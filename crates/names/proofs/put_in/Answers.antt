@@ -1,5 +1,4 @@
-use Rattle.std.proofs.Common.{sym, ◌∙◌, ap, List, ℕ, rules}
-use Rattle.names.specs.Put.{put_at, after_put}
+use Rattle.std.proofs.Common.{sym}
 use Rattle.names.proofs.Placed.{put_name_past, after_name_past}
 use Rattle.names.proofs.put_in.Goals as goal
 

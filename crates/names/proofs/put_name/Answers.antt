@@ -1,4 +1,4 @@
-use Rattle.std.proofs.Common.{refl, rules}
+use Rattle.std.proofs.Common.{refl}
 use Rattle.names.specs.Text.{text}
 use Rattle.names.specs.Table.{names}
 use Rattle.names.proofs.put_name.Goals as goal

@@ -1,4 +1,4 @@
-use Rattle.std.proofs.Common.{ℕ, ◌≤◌, ◌-◌, ◌≡◌, refl, ap, ◌∙◌, List, arith, length, set, rules}
+use Rattle.std.proofs.Common.{ℕ, ◌-◌, ◌≡◌, refl, ap, ◌∙◌, List, arith, set, rules}
 use Rattle.places.specs.Places.{places_of}
 use Rattle.places.proofs.Laws.{cutting, cutting_none, cutting_more, cutting_all}
 use Rattle.places.proofs.cut_at.Goals as goal

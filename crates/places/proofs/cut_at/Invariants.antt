@@ -1,6 +1,5 @@
-use Rattle.std.proofs.Common.{ℕ, ◌≤◌, ◌-◌, ◌≡◌, refl, ap, ◌∙◌, List, arith, length, set, rules}
-use Rattle.places.specs.Places.{places_of}
-use Rattle.places.proofs.Laws.{cutting, cutting_none, cutting_more, cutting_all}
+use Rattle.std.proofs.Common.{◌≤◌, ◌≡◌, length}
+use Rattle.places.proofs.Laws.{cutting}
 use Rattle.places.proofs.cut_at.Given as goal
 
 abbrev pub invariant-loop-k : goal.invariant-loop-k

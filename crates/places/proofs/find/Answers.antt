@@ -1,5 +1,5 @@
-use Rattle.std.proofs.Common.{◌≤◌, ◌≡◌, refl, sym, ◌∙◌, arith, eq-eqb, ne_eqb, rules}
-use Rattle.places.specs.Places.{down, never, same}
+use Rattle.std.proofs.Common.{refl, sym, ◌∙◌, arith, eq-eqb, ne_eqb}
+use Rattle.places.specs.Places.{never, same}
 use Rattle.places.proofs.Laws.{down_none, down_hit, down_on, place_of_lem}
 use Rattle.places.proofs.find.Goals as goal
 

@@ -1,4 +1,3 @@
-use Rattle.std.proofs.Common.{rules}
 use Rattle.places.proofs.Laws.{first_at, first_none}
 use Rattle.places.proofs.first_of.Goals as goal
 

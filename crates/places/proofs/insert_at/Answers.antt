@@ -1,4 +1,4 @@
-use Rattle.std.proofs.Common.{ℕ, ◌≤◌, ◌-◌, ◌+◌, ◌≡◌, refl, ap, ◌∙◌, List, arith, length, get_or, set, rules}
+use Rattle.std.proofs.Common.{ℕ, ◌-◌, ◌+◌, ◌≡◌, refl, ap, ◌∙◌, List, arith, get_or, set, rules}
 use Rattle.places.specs.Places.{places_of}
 use Rattle.places.proofs.Laws.{opening, opening_none, opening_more, opening_all}
 use Rattle.places.proofs.insert_at.Goals as goal

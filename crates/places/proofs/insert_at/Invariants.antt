@@ -1,6 +1,5 @@
-use Rattle.std.proofs.Common.{ℕ, ◌≤◌, ◌-◌, ◌+◌, ◌≡◌, refl, ap, ◌∙◌, List, arith, length, get_or, set, rules}
-use Rattle.places.specs.Places.{places_of}
-use Rattle.places.proofs.Laws.{opening, opening_none, opening_more, opening_all}
+use Rattle.std.proofs.Common.{◌≤◌, ◌≡◌, length}
+use Rattle.places.proofs.Laws.{opening}
 use Rattle.places.proofs.insert_at.Given as goal
 
 abbrev pub invariant-loop-k : goal.invariant-loop-k

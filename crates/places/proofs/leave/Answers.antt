@@ -1,4 +1,4 @@
-use Rattle.std.proofs.Common.{rules, sym, ◌∙◌, arith}
+use Rattle.std.proofs.Common.{sym, ◌∙◌, arith}
 use Rattle.places.proofs.Laws.{place_lt, left_none, left_at_lem}
 use Rattle.places.proofs.leave.Goals as goal
 

@@ -1,4 +1,4 @@
-use Rattle.std.proofs.Common.{rules, sym, ◌∙◌, arith}
+use Rattle.std.proofs.Common.{sym, ◌∙◌, arith}
 use Rattle.places.proofs.Laws.{without_in, without_out}
 use Rattle.places.proofs.leave_at.Goals as goal
 

@@ -1,4 +1,4 @@
-use Rattle.std.proofs.Common.{refl, rules}
+use Rattle.std.proofs.Common.{refl}
 use Rattle.places.proofs.Laws.{pushed_law}
 use Rattle.places.proofs.push.Goals as goal
 

@@ -1,6 +1,5 @@
-use Rattle.std.proofs.Common.{ℕ, ◌≤◌, ◌-◌, ◌+◌, ◌≡◌, refl, ap, ◌∙◌, List, arith, length, get_or, set, rules}
-use Rattle.places.specs.Places.{places_of}
-use Rattle.places.proofs.Laws.{shifted, shifted_none, shifted_more, shifted_all}
+use Rattle.std.proofs.Common.{◌≤◌, ◌-◌, ◌≡◌, length}
+use Rattle.places.proofs.Laws.{shifted}
 use Rattle.places.proofs.remove_at.Given as goal
 
 abbrev pub invariant-loop-k : goal.invariant-loop-k

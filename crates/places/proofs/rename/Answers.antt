@@ -1,4 +1,4 @@
-use Rattle.std.proofs.Common.{sym, ◌∙◌, arith, rules}
+use Rattle.std.proofs.Common.{sym, ◌∙◌, arith}
 use Rattle.places.proofs.Laws.{place_lt, renamed_none, renamed_at_lem}
 use Rattle.places.proofs.rename.Goals as goal
 

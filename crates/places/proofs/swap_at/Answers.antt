@@ -1,4 +1,4 @@
-use Rattle.std.proofs.Common.{arith, rules}
+use Rattle.std.proofs.Common.{arith}
 use Rattle.places.proofs.Laws.{swapped_law}
 use Rattle.places.proofs.swap_at.Goals as goal
 

@@ -1,5 +1,4 @@
 use Rattle.records.proofs.Laws.{arguments_bad_1, arguments_bad_2, arguments_bad_3, arguments_all}
-use Rattle.std.proofs.Common.{rules}
 use Rattle.records.proofs.arguments_at.Goals as goal
 
 pub returns-in_default : goal.returns-in_default

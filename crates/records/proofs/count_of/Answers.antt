@@ -1,4 +1,4 @@
-use Rattle.std.proofs.Common.{refl, rules}
+use Rattle.std.proofs.Common.{refl}
 use Rattle.records.specs.Record.{count_of}
 use Rattle.records.proofs.count_of.Goals as goal
 

@@ -1,4 +1,4 @@
-use Rattle.std.proofs.Common.{arith, lt-ltb, le-ltb, rules}
+use Rattle.std.proofs.Common.{lt-ltb, le-ltb}
 use Rattle.records.specs.Number.{number_at}
 use Rattle.records.proofs.number.Goals as goal
 

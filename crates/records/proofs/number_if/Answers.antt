@@ -1,4 +1,4 @@
-use Rattle.std.proofs.Common.{lt-ltb, le-ltb, rules}
+use Rattle.std.proofs.Common.{lt-ltb, le-ltb}
 use Rattle.records.specs.Record.{number_if}
 use Rattle.records.proofs.number_if.Goals as goal
 

@@ -1,5 +1,4 @@
 use Rattle.records.specs.Pair.{name_at, text_at, pair_next, value_at, next_at}
-use Rattle.std.proofs.Common.{rules}
 use Rattle.records.proofs.pair_at.Goals as goal
 
 pub returns : goal.returns

@@ -1,5 +1,4 @@
 use Rattle.records.proofs.Laws.{pairs_bad, pairs_cut, pairs_all}
-use Rattle.std.proofs.Common.{rules}
 use Rattle.records.proofs.pairs_at.Goals as goal
 
 pub returns-in_default : goal.returns-in_default

@@ -1,4 +1,4 @@
-use Rattle.std.proofs.Common.{refl, rules}
+use Rattle.std.proofs.Common.{refl}
 use Rattle.records.specs.Record.{pairs_of}
 use Rattle.records.proofs.pairs_of.Goals as goal
 

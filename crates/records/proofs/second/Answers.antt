@@ -1,4 +1,4 @@
-use Rattle.std.proofs.Common.{arith, lt-ltb, le-ltb, eq-eqb, ne_eqb, rules}
+use Rattle.std.proofs.Common.{lt-ltb, le-ltb, eq-eqb, ne_eqb}
 use Rattle.records.specs.Number.{second}
 use Rattle.records.proofs.second.Goals as goal
 

@@ -1,5 +1,4 @@
-use Rattle.std.proofs.Common.{◌≡◌, refl, sym, ◌∙◌, arith, rules}
-use Rattle.records.specs.Record.{skip_at}
+use Rattle.std.proofs.Common.{sym, ◌∙◌, arith}
 use Rattle.records.proofs.Laws.{skip_bad, skip_more, skip_none}
 use Rattle.records.proofs.skip_numbers.Goals as goal
 

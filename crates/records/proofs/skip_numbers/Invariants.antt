@@ -1,6 +1,5 @@
-use Rattle.std.proofs.Common.{◌≡◌, refl, sym, ◌∙◌, arith, rules}
+use Rattle.std.proofs.Common.{◌≡◌}
 use Rattle.records.specs.Record.{skip_at}
-use Rattle.records.proofs.Laws.{skip_bad, skip_more, skip_none}
 use Rattle.records.proofs.skip_numbers.Given as goal
 
 abbrev pub invariant-loop-left : goal.invariant-loop-left

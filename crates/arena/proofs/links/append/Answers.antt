@@ -1,5 +1,4 @@
 use Rattle.arena.specs.Links.{appended}
-use Rattle.std.proofs.Common.{rules}
 use Rattle.arena.proofs.links.append.Goals as goal
 
 pub returns : goal.returns

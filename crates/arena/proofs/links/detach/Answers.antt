@@ -1,4 +1,4 @@
-use Rattle.std.proofs.Common.{sym, rules}
+use Rattle.std.proofs.Common.{sym}
 use Rattle.arena.proofs.Laws.{detached_none, detached_some}
 use Rattle.arena.proofs.links.detach.Goals as goal
 

@@ -1,4 +1,4 @@
-use Rattle.std.proofs.Common.{◌≡◌, List, ℕ, rules}
+use Rattle.std.proofs.Common.{◌≡◌, List, ℕ}
 use Rattle.lent.specs.Mem.{field, put_field, link, PARENT, PREV, NEXT, FIRST}
 use Rattle.arena.specs.Links.{inserted}
 use Rattle.arena.proofs.links.insert_before.Goals as goal

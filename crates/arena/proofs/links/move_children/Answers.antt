@@ -1,4 +1,4 @@
-use Rattle.std.proofs.Common.{◌≡◌, List, ℕ, sym, rules}
+use Rattle.std.proofs.Common.{◌≡◌, List, ℕ, sym}
 use Rattle.lent.specs.Mem.{field, FIRST, LAST}
 use Rattle.arena.specs.Links.{moved, spliced}
 use Rattle.arena.proofs.Laws.{moved_none, moved_some}

@@ -1,5 +1,4 @@
-use Rattle.std.proofs.Common.{rules, ◌≡◌, sym, ◌∙◌, length}
-use Rattle.arena.specs.Links.{reparented}
+use Rattle.std.proofs.Common.{rules, sym, ◌∙◌}
 use Rattle.arena.proofs.Laws.{reparented_none, reparented_zero, reparented_step}
 use Rattle.arena.proofs.links.reparent.Goals as goal
 

@@ -1,6 +1,5 @@
-use Rattle.std.proofs.Common.{rules, ◌≡◌, sym, ◌∙◌, length}
+use Rattle.std.proofs.Common.{◌≡◌, length}
 use Rattle.arena.specs.Links.{reparented}
-use Rattle.arena.proofs.Laws.{reparented_none, reparented_zero, reparented_step}
 use Rattle.arena.proofs.links.reparent.Given as goal
 
 abbrev pub invariant-loop-left : goal.invariant-loop-left

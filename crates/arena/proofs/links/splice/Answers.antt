@@ -1,4 +1,4 @@
-use Rattle.std.proofs.Common.{◌≡◌, List, ℕ, rules}
+use Rattle.std.proofs.Common.{◌≡◌, List, ℕ}
 use Rattle.lent.specs.Mem.{put_field, link, PREV, NEXT, FIRST, LAST}
 use Rattle.arena.specs.Links.{reparented, spliced}
 use Rattle.arena.proofs.links.splice.Goals as goal

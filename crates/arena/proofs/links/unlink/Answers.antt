@@ -1,5 +1,4 @@
 use Rattle.arena.specs.Links.{unlinked}
-use Rattle.std.proofs.Common.{rules}
 use Rattle.arena.proofs.links.unlink.Goals as goal
 
 pub returns : goal.returns

@@ -1,6 +1,5 @@
 use Rattle.lent.specs.Room.{free_nodes}
 use Rattle.lent.specs.Mem.{slots}
-use Rattle.std.proofs.Common.{rules}
 use Rattle.lent.proofs.room.free_nodes.Goals as goal
 
 pub returns : goal.returns

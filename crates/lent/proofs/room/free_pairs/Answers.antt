@@ -1,6 +1,5 @@
 use Rattle.lent.specs.Room.{free_pairs}
 use Rattle.lent.specs.Mem.{slots}
-use Rattle.std.proofs.Common.{rules}
 use Rattle.lent.proofs.room.free_pairs.Goals as goal
 
 pub returns : goal.returns

@@ -1,4 +1,4 @@
-use Rattle.std.proofs.Common.{lt-ltb, le-ltb, rules}
+use Rattle.std.proofs.Common.{lt-ltb, le-ltb}
 use Rattle.lent.specs.Room.{fresh}
 use Rattle.lent.proofs.room.next.Goals as goal
 

@@ -1,5 +1,4 @@
 use Rattle.makers.specs.Make.{piece_after}
-use Rattle.std.proofs.Common.{rules}
 use Rattle.makers.proofs.make.add_piece.Goals as goal
 
 pub returns-clause-pieces_after : goal.returns-clause-pieces_after

@@ -1,5 +1,4 @@
 use Rattle.makers.specs.Make.{copied}
-use Rattle.std.proofs.Common.{rules}
 use Rattle.makers.proofs.make.copy_element.Goals as goal
 
 pub returns : goal.returns

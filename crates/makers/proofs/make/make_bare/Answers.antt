@@ -1,5 +1,4 @@
 use Rattle.makers.specs.Make.{bare}
-use Rattle.std.proofs.Common.{rules}
 use Rattle.makers.proofs.make.make_bare.Goals as goal
 
 pub returns : goal.returns

@@ -1,5 +1,4 @@
 use Rattle.makers.specs.Make.{document}
-use Rattle.std.proofs.Common.{rules}
 use Rattle.makers.proofs.make.make_document.Goals as goal
 
 pub returns : goal.returns

@@ -1,4 +1,4 @@
-use Rattle.std.proofs.Common.{sym, ◌∙◌, rules}
+use Rattle.std.proofs.Common.{sym, ◌∙◌}
 use Rattle.makers.proofs.Laws.{element_plain, element_template}
 use Rattle.makers.proofs.make.make_element.Goals as goal
 

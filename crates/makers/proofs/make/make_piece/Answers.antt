@@ -1,5 +1,4 @@
 use Rattle.makers.specs.Make.{piece}
-use Rattle.std.proofs.Common.{rules}
 use Rattle.makers.proofs.make.make_piece.Goals as goal
 
 pub returns : goal.returns

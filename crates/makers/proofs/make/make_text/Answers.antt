@@ -1,5 +1,4 @@
 use Rattle.makers.specs.Make.{text}
-use Rattle.std.proofs.Common.{rules}
 use Rattle.makers.proofs.make.make_text.Goals as goal
 
 pub returns-clause-mem_after : goal.returns-clause-mem_after

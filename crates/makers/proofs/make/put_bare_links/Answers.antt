@@ -1,5 +1,4 @@
 use Rattle.makers.specs.Make.{bare_links}
-use Rattle.std.proofs.Common.{rules}
 use Rattle.makers.proofs.make.put_bare_links.Goals as goal
 
 pub returns : goal.returns

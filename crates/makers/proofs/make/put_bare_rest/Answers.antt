@@ -1,4 +1,4 @@
-use Rattle.std.proofs.Common.{◌≡◌, List, ℕ, rules}
+use Rattle.std.proofs.Common.{◌≡◌, List, ℕ}
 use Rattle.lent.specs.Mem.{put_field, SPACE, NAME, MARK, START, COUNT, PIECE, END}
 use Rattle.makers.specs.Make.{bare_rest}
 use Rattle.makers.proofs.make.put_bare_rest.Goals as goal

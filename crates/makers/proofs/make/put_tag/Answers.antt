@@ -1,5 +1,4 @@
 use Rattle.makers.specs.Make.{tagged}
-use Rattle.std.proofs.Common.{rules}
 use Rattle.makers.proofs.make.put_tag.Goals as goal
 
 pub returns : goal.returns

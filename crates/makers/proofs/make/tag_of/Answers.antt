@@ -1,5 +1,4 @@
 use Rattle.makers.specs.Make.{tag_of}
-use Rattle.std.proofs.Common.{rules}
 use Rattle.makers.proofs.make.tag_of.Goals as goal
 
 pub returns : goal.returns

@@ -1,5 +1,4 @@
 use Rattle.makers.specs.Make.{tied}
-use Rattle.std.proofs.Common.{rules}
 use Rattle.makers.proofs.make.tie.Goals as goal
 
 pub returns : goal.returns

@@ -1,4 +1,4 @@
-use Rattle.std.proofs.Common.{◌∙◌, rules}
+use Rattle.std.proofs.Common.{◌∙◌}
 use Rattle.names.specs.Sets.{the_list_item_scope}
 use Rattle.names.proofs.InWords.{right}
 use Rattle.names.proofs.sets.in_list_item_scope.Goals as goal

@@ -1,4 +1,4 @@
-use Rattle.std.proofs.Common.{sym, ◌∙◌, rules, eq-eqb, ne_eqb}
+use Rattle.std.proofs.Common.{sym, ◌∙◌, eq-eqb, ne_eqb}
 use Rattle.names.specs.Sets.{is_html_point}
 use Rattle.names.specs.Space as space
 use Rattle.names.specs.Tag as tag

@@ -1,4 +1,4 @@
-use Rattle.std.proofs.Common.{◌∙◌, rules}
+use Rattle.std.proofs.Common.{◌∙◌}
 use Rattle.names.specs.Sets.{the_math_text_points}
 use Rattle.names.proofs.InWords.{right}
 use Rattle.names.proofs.sets.is_mathml_text_integration_point.Goals as goal

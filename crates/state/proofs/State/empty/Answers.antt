@@ -1,4 +1,4 @@
-use Rattle.std.proofs.Common.{rules, ℕ, ◌≡◌, List, replicate}
+use Rattle.std.proofs.Common.{ℕ, ◌≡◌, List, replicate}
 use Rattle.state.specs.declared.State.{State}
 use Rattle.state.specs.declared.Context.TheVariants.{None}
 use Rattle.state.specs.Fields.{empty_state}

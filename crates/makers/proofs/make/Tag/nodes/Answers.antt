@@ -1,4 +1,4 @@
-use Rattle.std.proofs.Common.{sym, ◌∙◌, rules}
+use Rattle.std.proofs.Common.{sym, ◌∙◌}
 use Rattle.makers.proofs.Laws.{nodes_one, nodes_two}
 use Rattle.makers.proofs.make.Tag.nodes.Goals as goal
 
