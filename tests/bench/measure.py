@@ -1,6 +1,6 @@
 """What a record of a run costs: the proved builder against plain Rust (plain.rs), in one process (bench.rs).
 
-    rt staticlib exported && rt staticlib timed
+    tools/libraries.sh
     python3 tests/bench/measure.py [--instructions] [--leaflets N] [--without CALLS] [--limit RATIO]
 
 For each run of records: the time of begin and run, less that for no records, over the records; the median of 41 samples of at least

@@ -7,7 +7,7 @@
 #   ./check.sh long [N]    streams of N records in all, ten million if not said, from two fresh seeds at once
 #   ./check.sh mistakes    deliberate mistakes in a copy of the model, one at a time: each must be found
 #
-# The proved builder is compared too where the library is there (rt staticlib exported); gate and long ask for it.
+# The proved builder is compared too where the library is there (tools/libraries.sh); gate and long ask for it.
 # GIVEN=DIR: the folder with the sources as given (its src/ has tree_builder/mod.rs and so on); they are then compared byte for
 # byte too. SEED=N: another fixed seed. FRESH=N: the fresh seed, to see a run again.
 set -e
@@ -39,7 +39,7 @@ if [ -f $library/libexported.a ]; then
     proved="--other target/proved"
     [ ! -x $root/target/bin/dozenpurse ] || proved="$proved --program $root/target/bin/dozenpurse"
 elif [ "$what" = gate ] || [ "$what" = long ]; then
-    echo "no $library/libexported.a: rt staticlib exported" >&2
+    echo "no $library/libexported.a: tools/libraries.sh makes it" >&2
     exit 1
 fi
 
