@@ -1,11 +1,12 @@
 #!/usr/bin/env python3
-"""Writes the files of crates/names that hold numbers of names.
+"""Writes the files of crates/names that hold numbers of names, and the copy of names.txt beside the oracle.
 
     python3 tools/names.py            write them
     python3 tools/names.py --check    write nothing, name each file that is stale; exit 1 where there is one
 
 names.txt is the list of names, one a line, in ascending order of their bytes: name n stands on line n.
 crates/names/specs/Sets.antt says which names each set has. Both are written by hand.
+tests/oracle/names.txt is a copy of names.txt: the oracle and the model read that.
 """
 import re
 import sys
@@ -13,9 +14,13 @@ from pathlib import Path
 
 ROOT = Path(__file__).resolve().parent.parent
 CRATE = ROOT / 'crates' / 'names'
+COPY = ROOT / 'tests' / 'oracle' / 'names.txt'
 BITS = 64
 NAMESPACES = ('html', 'math', 'svg')
 WIDTH = 120
+# As the formatter lays out an array: filled lines where each item is short, else one item a line.
+ROW = 99
+SHORT = 10
 # The most constants that one function of `tag` lists.
 PART = 30
 
@@ -37,23 +42,32 @@ def read_names(text):
     return names
 
 
-def members(expression, lists):
-    """The names of an antt expression of lists: both `∷` and `++` put what follows after what stands before."""
-    found = []
-    for word in re.findall(r'tag\.[^\s;]+|\w+', expression):
-        found += [word[4:]] if word.startswith('tag.') else lists[word]
+def spelled(names):
+    """Each name by its word in antt, or an error where two names have one word."""
+    found = {}
+    for name in names:
+        if found.setdefault(word(name), name) != name:
+            sys.exit(f'names.txt: {found[word(name)]} and {name} are one word')
     return found
 
 
-def read_sets(text):
-    """For each set, by its name in antt, the members in each namespace."""
+def members(expression, lists, called):
+    """The names of an antt expression of lists: both `∷` and `++` put what follows after what stands before."""
+    found = []
+    for item in re.findall(r'tag\.\w+|\w+', expression):
+        found += [called.get(item[4:], item[4:])] if item.startswith('tag.') else lists[item]
+    return found
+
+
+def read_sets(text, called):
+    """The lists by their names in antt, and for each set, by its name, the members in each namespace."""
     lists, sets = {}, {}
     for name, body in re.findall(r'(?m)^(\w+) =((?: .*)?(?:\n +.*)*)', text):
         fields = dict(re.findall(r'(\w+) = ([^;}]*)', body)) if 'record' in body else None
         if fields is not None:
-            sets[name] = [members(fields[space], lists) for space in NAMESPACES]
+            sets[name] = [members(fields[space], lists, called) for space in NAMESPACES]
         elif re.search(r'tag\.\S+ ∷', body):
-            lists[name] = members(body, lists)
+            lists[name] = members(body, lists, called)
     return lists, sets
 
 
@@ -94,8 +108,8 @@ class Table:
         found = [0] * (self.each * len(spaces))
         for space, group in enumerate(spaces):
             for name in group:
-                word, bit = divmod(self.number[name], BITS)
-                found[space * self.each + word] |= 1 << bit
+                row, bit = divmod(self.number[name], BITS)
+                found[space * self.each + row] |= 1 << bit
         return found
 
 
@@ -104,17 +118,23 @@ def constant(name):
     return re.sub(r'(?<=[a-z])(?=[A-Z])', '_', name).replace('-', '_').upper()
 
 
+def word(name):
+    """The same as a word of antt: annotation_xml, foreign_object, math_text_points."""
+    return constant(name).lower()
+
+
 def constructor(name):
-    return 'the-' + constant(name).replace('_', '-').lower()
+    return 'the_' + word(name)
 
 
-def filled(items):
-    """Items on lines of antt, as many on each as fit."""
-    lines, line = [], '   '
+def filled(items, indent=4, width=WIDTH):
+    """Items on lines, as many on each as fit."""
+    start = ' ' * (indent - 1)
+    lines, line = [], start
     for item in items:
-        if len(line) + 1 + len(item) > WIDTH:
+        if len(line) + 1 + len(item) > width:
             lines.append(line)
-            line = '   '
+            line = start
         line += ' ' + item
     return '\n'.join(lines + [line])
 
@@ -131,6 +151,12 @@ def one_a_line(items, indent):
     return '\n'.join(' ' * indent + item for item in items)
 
 
+def array(items, indent):
+    """The items of an array in code."""
+    rows = [item + ',' for item in items]
+    return filled(rows, indent, ROW) if all(len(item) <= SHORT for item in items) else one_a_line(rows, indent)
+
+
 def table_rt(table):
     starts = table.starts()
     return f'''// {WRITTEN}.
@@ -142,7 +168,7 @@ pub const BYTES: [u8; {starts[-1]}] = *b"\\
     {table.names[-1]}";
 
 pub const STARTS: [u16; {len(starts)}] = [
-{one_a_line((f'{start},' for start in starts), 4)}
+{array([str(start) for start in starts], 4)}
 ];
 '''
 
@@ -151,17 +177,17 @@ def tag_rt(table):
     constants = '\n\n'.join(f'pub const {constant(tag)}: u16 = {table.number[tag]};' for tag in table.tags)
     functions = '\n\n'.join(
         f'''pub fn all_{n}() -> [u16; {len(part)}]
-    ensures {{ λ r. ⌜ r ≡ tags{n} ⌝ }}
+    ensures {{ result ≡ tags{n} }}
 {{
     [
-{one_a_line((constant(tag) + ',' for tag in part), 8)}
+{array([constant(tag) for tag in part], 8)}
     ]
 }}'''
         for n, part in enumerate(table.parts, 1))
     return f'''// {WITH_SETS}.
 // The numbers of names that rules speak of, by name. specs/Tag.antt has the same, and proofs/Tags.antt ties each to its bytes.
-ghost use mathlib.Core.Path.{{_≡_}};
-ghost use Rattle·names·specs.specs.Tags.{{{', '.join(part_names(table))}}};
+ghost use Rattle.std.specs.Prelude.{{◌≡◌}};
+ghost use Rattle.names.specs.Tags.{{{', '.join(part_names(table))}}};
 
 {constants}
 
@@ -174,7 +200,7 @@ def words_rt(table):
     size = table.each * len(NAMESPACES)
     arrays = '\n\n'.join(
         f'''pub const {constant(name)}: [u64; {size}] = [
-{one_a_line((hex(word) + ',' for word in table.words(spaces)), 4)}
+{array([hex(bits) for bits in table.words(spaces)], 4)}
 ];'''
         for name, spaces in table.sets.items())
     return f'''// {WITH_SETS}.
@@ -197,9 +223,8 @@ def table_antt(table):
     return f'''-- {WRITTEN}.
 -- The table of names: every element and attribute name of document 01 and of the standard's section 13.2, as bytes, in ascending order.
 -- Assumes nothing.
-use Prim.Native.Nat.{{ℕ}}
-use mathlib.Core.List.{{List, [], _∷_}}
-use Rattle·names·specs.specs.Text.{{text}}
+use Rattle.std.specs.Prelude.{{ℕ, List, [], ◌∷◌}}
+use Rattle.names.specs.Text.{{text}}
 
 unfoldable pub names : List (List ℕ)
 names =
@@ -224,12 +249,12 @@ span = {table.span}
 
 
 def tag_antt(table):
-    tags = '\n\n'.join(f'abbrev pub {tag} : ℕ\n{tag} = {table.number[tag]}' for tag in table.tags)
+    tags = '\n\n'.join(f'abbrev pub {word(tag)} : ℕ\n{word(tag)} = {table.number[tag]}' for tag in table.tags)
     return f'''-- {WITH_SETS}.
--- The numbers of names that rules speak of, by name: `use Rattle·names.specs.Tag as tag` and then `tag.template`.
+-- The numbers of names that rules speak of, by name: `use Rattle.names.specs.Tag as tag` and then `tag.template`.
 -- `proofs/Tags.antt` ties each to its bytes in the table.
 -- Assumes nothing.
-use Prim.Native.Nat.{{ℕ}}
+use Rattle.std.specs.Prelude.{{ℕ}}
 
 {tags}
 '''
@@ -239,19 +264,18 @@ def tags_antt(table):
     parts = '\n\n'.join(
         f'''abbrev pub {name} : List ℕ
 {name} =
-{antt_list(f'tag.{tag}' for tag in part)}'''
+{antt_list(f'tag.{word(tag)}' for tag in part)}'''
         for name, part in zip(part_names(table), table.parts))
     return f'''-- {WITH_SETS}.
 -- All constants of `Tag`, in the table's order, in parts of {PART} at most.
 -- Assumes nothing.
-use Prim.Native.Nat.{{ℕ}}
-use mathlib.Core.List.{{List, [], _∷_, _++_}}
-use Rattle·names·specs.specs.Tag as tag
+use Rattle.std.specs.Prelude.{{ℕ, List, [], ◌∷◌, ◌++◌}}
+use Rattle.names.specs.Tag as tag
 
 {parts}
 
-abbrev pub allTags : List ℕ
-allTags = {' ++ '.join(part_names(table))}
+abbrev pub all_tags : List ℕ
+all_tags = {' ++ '.join(part_names(table))}
 '''
 
 
@@ -260,20 +284,18 @@ def tied_antt(table):
     return f'''-- {WITH_SETS}.
 -- Each constant of `specs/Tag.antt` is the number of the name that it is called by: one computed test over the list of both.
 -- Assumes nothing.
-use mathlib.Core.Path.{{_≡_, refl}}
-use mathlib.Core.List.{{List, [], _∷_, map}}
-use Prim.Native.String.{{String}}
-use Rattle·names·specs.specs.Text.{{text}}
-use Rattle·names·specs.specs.Table.{{names}}
-use Rattle·names·specs.specs.Numbers.{{numberOf}}
-use Rattle·names·specs.specs.Tags.{{allTags}}
+use Rattle.std.proofs.Common.{{◌≡◌, refl, List, [], ◌∷◌, map, String}}
+use Rattle.names.specs.Text.{{text}}
+use Rattle.names.specs.Table.{{names}}
+use Rattle.names.specs.Numbers.{{number_of}}
+use Rattle.names.specs.Tags.{{all_tags}}
 
 abbrev pub called : List String
 called =
 {called}
     []
 
-pub tied : map (λ (s : String). numberOf (text s)) called ≡ allTags
+pub tied : map (λ (s : String). number_of (text s)) called ≡ all_tags
 unfolding names text
 tied = refl
 '''
@@ -282,33 +304,31 @@ tied = refl
 def set_words_antt(table):
     lists = list(table.lists)
     sets = {constructor(name): table.words(spaces) for name, spaces in table.sets.items()}
-    words = '\n'.join(f'wordsOf {name} =\n{antt_list(map(hex, row))}' for name, row in sets.items())
+    words = '\n'.join(f'words_of {name} =\n{antt_list(map(hex, row))}' for name, row in sets.items())
     agrees = '\n'.join(f'agrees {name} = tt' for name in sets)
     listed = '\n'.join(f'listed {name} = tt' for name in sets)
     return f'''-- {WITH_SETS}.
 -- The words of each set, and two tests, each computed once for each set: the words agree with the members at every name
 -- that they have a bit for, and the members are names of the table.
 -- Assumes nothing.
-use mathlib.Core.List.{{List, [], _∷_}}
-use Prim.Native.Nat.{{ℕ}}
-use lib.Dec.{{T}}
-use Rattle·names·specs.specs.Numbers.{{inTable}}
-use Rattle·names·specs.specs.Sets.{{Names, OneOf}}
-use Rattle·names·specs.specs.Sets.{{{', '.join(lists)}}}
-use Rattle·names·specs.specs.Sets.{{{', '.join(sets)}}}
-use Rattle·names·proofs.proofs.Agree.{{agree}}
-use Rattle·names·proofs.proofs.Members.{{everywhere}}
+use Rattle.std.proofs.Common.{{List, [], ◌∷◌, ℕ, T}}
+use Rattle.names.specs.Numbers.{{in_table}}
+use Rattle.names.specs.Sets.{{Names, OneOf}}
+use Rattle.names.specs.Sets.{{{', '.join(lists)}}}
+use Rattle.names.specs.Sets.{{{', '.join(sets)}}}
+use Rattle.names.proofs.Agree.{{agree}}
+use Rattle.names.proofs.Members.{{everywhere}}
 
 -- the words, as `src/words.rt` has them
-abbrev pub wordsOf : {{s : Names}} → OneOf s → List ℕ
+abbrev pub words_of : {{s : Names}} → OneOf s → List ℕ
 {words}
 
-pub agrees : {{s : Names}} (t : OneOf s) → T (agree (wordsOf t) s)
+pub agrees : {{s : Names}} (t : OneOf s) → T (agree (words_of t) s)
 unfolding agree {' '.join(lists)}
 {agrees}
 
-pub listed : {{s : Names}} → OneOf s → T (everywhere inTable s)
-unfolding everywhere inTable {' '.join(lists)}
+pub listed : {{s : Names}} → OneOf s → T (everywhere in_table s)
+unfolding everywhere in_table {' '.join(lists)}
 {listed}
 '''
 
@@ -328,18 +348,19 @@ FILES = {
 def main(arguments):
     if arguments not in ([], ['--check']):
         sys.exit(__doc__)
-    names = read_names((ROOT / 'names.txt').read_text())
-    table = Table(names, *read_sets((CRATE / 'specs' / 'Sets.antt').read_text()))
+    listed = (ROOT / 'names.txt').read_text()
+    names = read_names(listed)
+    table = Table(names, *read_sets((CRATE / 'specs' / 'Sets.antt').read_text(), spelled(names)))
+    texts = {CRATE / path: render(table) for path, render in FILES.items()} | {COPY: listed}
     stale = []
-    for path, render in FILES.items():
-        file, text = CRATE / path, render(table)
+    for file, text in texts.items():
         if file.exists() and file.read_text() == text:
             continue
-        stale.append(path)
+        stale.append(file)
         if not arguments:
             file.write_text(text)
-    for path in stale:
-        print(f'crates/names/{path}:', 'stale' if arguments else 'written')
+    for file in stale:
+        print(f'{file.relative_to(ROOT)}:', 'stale' if arguments else 'written')
     return 1 if stale and arguments else 0
 
 
