@@ -284,7 +284,8 @@ def tied_antt(table):
     return f'''-- {WITH_SETS}.
 -- Each constant of `specs/Tag.antt` is the number of the name that it is called by: one computed test over the list of both.
 -- Assumes nothing.
-use Rattle.std.proofs.Common.{{◌≡◌, refl, List, [], ◌∷◌, map, String}}
+use Rattle.std.proofs.Common.{{◌≡◌, refl, List, [], ◌∷◌, map}}
+use Prim.Native.String.{{String}}
 use Rattle.names.specs.Text.{{text}}
 use Rattle.names.specs.Table.{{names}}
 use Rattle.names.specs.Numbers.{{number_of}}
