@@ -18,7 +18,7 @@ use Rattle.queries.proofs.reset.reset_insertion_mode.Reads as reset-reads
 use Rattle.queries.proofs.foreign.is_foreign.Kinds as foreign-kinds
 use Rattle.queries.proofs.foreign.is_foreign.Reads as foreign-reads
 use Rattle.queries.proofs.body_elem.body_elem.Kinds as body-kinds
-use Rattle.queries.proofs.body_elem.body_elem.Reads as body-Reads
+use Rattle.queries.proofs.body_elem.body_elem.Reads as body-reads
 use Rattle.queries.proofs.tokenizer.tokenizer_state_for_context_elem.Kinds as tokenizer-kinds
 use Rattle.queries.proofs.tokenizer.tokenizer_state_for_context_elem.Reads as tokenizer-reads
 use Rattle.dump.proofs.start.Kinds as start-kinds
@@ -26,7 +26,7 @@ use Rattle.dump.proofs.start.Reads as start-reads
 use Rattle.dump.proofs.next.Kinds as next-kinds
 use Rattle.dump.proofs.next.Reads as next-reads
 use Rattle.dump.proofs.line.Kinds as line-kinds
-use Rattle.dump.proofs.line.Reads as line_reads_lem
+use Rattle.dump.proofs.line.Reads as line-reads
 use Rattle.interface.specs.Questions as questions
 use Rattle.interface.specs.Public.{Public, check, begin, run, call, ask, start, next, line, Lent, Gives, Promise}
 
@@ -61,7 +61,7 @@ module _ (l d p q i o : List ℕ) where
   unfolding questions.answer_of
   foreign_promised = record { asks = λ κs a. tt; promised = λ κs a z e h. (h, refl); no_more = λ κs a z e w. w.0 }
 
-  pub body_promised : Contract 5 body-kinds.ps body-kinds.r body-Reads.Asked body-Reads.Learnt
+  pub body_promised : Contract 5 body-kinds.ps body-kinds.r body-reads.Asked body-reads.Learnt
       (λ κs a z e. Still (ask questions.body a.0) z (lent a.1.0.now a.1.1.0.now a.1.1.1.0.now a.1.1.1.1.0.now a.1.1.1.1.1.0.now i o))
   unfolding questions.answer_of
   body_promised = record { asks = λ κs a. tt; promised = λ κs a z e h. (h, refl); no_more = λ κs a z e w. w.0 }
@@ -106,7 +106,7 @@ module _ (l d p q i o : List ℕ) where
       (λ κs a z e. Still (next a.1.0) z (lent a.0.now l d p q i o))
   next_promised = record { asks = λ κs a. tt; promised = λ κs a z e h. (h, refl); no_more = λ κs a z e w. w.0 }
 
-  pub line_promised : Contract 4 line-kinds.ps line-kinds.r line_reads_lem.Asked line_reads_lem.Learnt
+  pub line_promised : Contract 4 line-kinds.ps line-kinds.r line-reads.Asked line-reads.Learnt
       (λ κs a z e.
       Promise (line a.1.1.1.0) (lent a.0.now l d a.1.0.now a.1.1.0.now i a.1.1.1.1.0.now)
       (record { gives = z; lent = lent a.0.now l d a.1.0.now a.1.1.0.now i e.1.1.1.1.0.now }))
