@@ -1,7 +1,6 @@
 -- The cases of the insertion calls, as the code meets them, for any part of the state that they are not lent.
 -- Assumes nothing.
 use Rattle.std.proofs.Common.{ℕ, ◌+◌, ◌≡◌, sym, ap, ◌∙◌, List, lt-ltb, eq-eqb, ne_eqb, arith}
-use Rattle.places.specs.Places.{at}
 use Rattle.state.specs.declared.Core.{Core}
 use Rattle.state.specs.declared.Context.{Context}
 use Rattle.state.specs.Fields.{set_counts, set_nodes, set_pieces}

@@ -3,7 +3,7 @@ use Rattle.std.specs.Prelude.{◌≡◌, ◌≢◌, ◌⊎◌, List, [], ℕ, ze
 use Rattle.std.proofs.Common.{sym, ◌∙◌, inl, inr, arith}
 use Rattle.std.proofs.Math.Decide.{ℕ_discrete}
 use Rattle.lent.specs.Mem.{field, KIND, PIECE, END}
-use Rattle.theory.specs.Fn.{at, In}
+use Rattle.theory.specs.Fn.{In}
 use Rattle.theory.specs.Kids.{lst, in_split}
 use Rattle.theory.specs.Pigeon.{Once, Within, pigeon, out_of}
 use Rattle.theory.specs.Count.{lists, in_lists, once_join, within_join}

@@ -1,4 +1,3 @@
-use Rattle.std.proofs.Common.{rules}
 use Rattle.names.specs.Text.{text}
 use Rattle.dump.specs.Line.{line_of}
 use Rattle.dump.proofs.WrittenLaws.{and_then, wrote_front}

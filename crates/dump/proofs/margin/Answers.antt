@@ -1,4 +1,3 @@
-use Rattle.std.proofs.Common.{rules}
 use Rattle.names.specs.Text.{text}
 use Rattle.dump.proofs.WrittenLaws.{and_then}
 use Rattle.dump.proofs.LineLaws.{margin_own, margin_below}

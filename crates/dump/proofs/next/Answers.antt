@@ -1,4 +1,4 @@
-use Rattle.std.proofs.Common.{sym, ◌∙◌, rules}
+use Rattle.std.proofs.Common.{sym, ◌∙◌}
 use Rattle.dump.proofs.OrderLaws.{next_none, next_part, next_inside}
 use Rattle.dump.proofs.next.Goals as goal
 

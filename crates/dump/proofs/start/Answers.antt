@@ -1,4 +1,3 @@
-use Rattle.std.proofs.Common.{rules}
 use Rattle.dump.specs.Order.{first_line}
 use Rattle.dump.proofs.start.Goals as goal
 

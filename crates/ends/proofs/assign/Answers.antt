@@ -1,11 +1,8 @@
 use Rattle.ends.proofs.assign.Invariants.{Going}
-use Rattle.std.proofs.Common.{eqb-true, ◌≡◌, refl, sym, ◌∙◌, ◌≢◌, List, ℕ, ◌≤◌, ◌<◌, ◌+◌, ◌-◌, arith, length, set, length-set}
-use Rattle.std.proofs.lemmas.Bool.{eqb-false, not-true, not-false}
-use Rattle.lent.specs.Mem.{up}
+use Rattle.std.proofs.Common.{◌≡◌, ◌∙◌, ◌≢◌, List, ℕ, ◌≤◌, ◌<◌, ◌+◌, ◌-◌, arith, length, set, length-set}
 use Rattle.std.proofs.Math.Decide.{ℕ_discrete}
 use Rattle.theory.specs.Fn.{at}
-use Rattle.theory.specs.Depth.{InRange, Ends, depth, deeper, right_set, known_set, known_new}
-use Rattle.ends.specs.Say.{Better}
+use Rattle.theory.specs.Depth.{InRange, deeper, right_set, known_set, known_new}
 use Rattle.ends.proofs.assign.Goals as goal
 
 step : {up : ℕ → ℕ} {dep₀ dep : List ℕ} {c x k d z e : ℕ} → Going up dep₀ dep c x k d z e → 0 < e → 0 < z → d + k ≤ c

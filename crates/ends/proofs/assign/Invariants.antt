@@ -1,9 +1,7 @@
-use Rattle.std.proofs.Common.{eqb-true, ◌≡◌, refl, sym, ◌∙◌, ◌≢◌, List, ℕ, ◌≤◌, ◌<◌, ◌+◌, ◌-◌, arith, length, set, length-set}
-use Rattle.std.proofs.lemmas.Bool.{eqb-false, not-true, not-false}
+use Rattle.std.proofs.Common.{◌≡◌, ◌≢◌, List, ℕ, ◌≤◌, ◌<◌, ◌+◌}
 use Rattle.lent.specs.Mem.{up}
-use Rattle.std.proofs.Math.Decide.{ℕ_discrete}
 use Rattle.theory.specs.Fn.{at}
-use Rattle.theory.specs.Depth.{InRange, Ends, depth, deeper, right_set, known_set, known_new}
+use Rattle.theory.specs.Depth.{Ends, depth}
 use Rattle.ends.specs.Say.{Better}
 use Rattle.ends.proofs.assign.Given as goal
 

@@ -1,7 +1,5 @@
-use Rattle.std.proofs.Common.{◌≡◌, refl, ◌≤◌, ◌+◌, ◌-◌, arith, eqb-true}
-use Rattle.std.proofs.lemmas.Bool.{eqb-false, not-true, not-false}
-use Rattle.lent.specs.Mem.{up}
-use Rattle.theory.specs.Depth.{Ends, depth, deeper}
+use Rattle.std.proofs.Common.{arith}
+use Rattle.theory.specs.Depth.{deeper}
 use Rattle.ends.proofs.climb.Goals as goal
 
 pub loop-k-preserved : goal.loop-k-preserved

@@ -1,7 +1,6 @@
-use Rattle.std.proofs.Common.{◌≡◌, refl, ◌≤◌, ◌+◌, ◌-◌, arith, eqb-true}
-use Rattle.std.proofs.lemmas.Bool.{eqb-false, not-true, not-false}
+use Rattle.std.proofs.Common.{◌≡◌, ◌≤◌, ◌+◌, ◌-◌}
 use Rattle.lent.specs.Mem.{up}
-use Rattle.theory.specs.Depth.{Ends, depth, deeper}
+use Rattle.theory.specs.Depth.{Ends, depth}
 use Rattle.ends.proofs.climb.Given as goal
 
 abbrev pub invariant-loop-k : goal.invariant-loop-k

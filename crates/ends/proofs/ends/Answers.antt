@@ -1,10 +1,8 @@
-use Rattle.std.proofs.Common.{◌≡◌, Bool, true, List, ℕ, ◌≤◌, ◌<◌, arith, rules, length, replicate}
-use Rattle.std.proofs.lemmas.Bool.{not-true, not-false}
+use Rattle.std.proofs.Common.{ℕ, ◌≤◌, arith, replicate}
 use Rattle.std.proofs.Math.ListN.{length-replicate}
 use Rattle.lent.specs.Mem.{up}
-use Rattle.theory.specs.Says.{f≢}
 use Rattle.theory.specs.Depth.{InRange, right_none}
-use Rattle.ends.specs.Say.{Given, Filled, Known}
+use Rattle.ends.specs.Say.{Given}
 use Rattle.ends.proofs.ends.Goals as goal
 
 -- at first nothing is known

@@ -1,10 +1,9 @@
-use Rattle.std.proofs.Common.{◌≡◌, refl, sym, ◌∙◌, ◌≢◌, List, ℕ, ◌≤◌, ◌<◌, ◌+◌, ◌-◌, arith}
+use Rattle.std.proofs.Common.{◌≡◌, sym, ◌∙◌, List, ℕ, ◌≤◌, ◌<◌, ◌+◌, arith}
 use Rattle.std.proofs.Math.Decide.{ℕ_discrete, dec_lt}
 use Rattle.theory.specs.Fn.{at}
-use Rattle.lent.specs.Mem.{up}
 use Rattle.theory.specs.Says.{f≢}
 use Rattle.theory.specs.Depth.{Ends, Right, depth, depth_le, depth_zero, right_zero}
-use Rattle.ends.specs.Say.{Given, Climbed, Assigned, Better}
+use Rattle.ends.specs.Say.{Climbed}
 use Rattle.ends.proofs.fill.Goals as goal
 
 -- what is read where the climb stopped is the depth there

@@ -1,10 +1,7 @@
-use Rattle.std.proofs.Common.{◌≡◌, refl, sym, ◌∙◌, ◌≢◌, List, ℕ, ◌≤◌, ◌<◌, ◌+◌, ◌-◌, arith}
-use Rattle.std.proofs.Math.Decide.{ℕ_discrete, dec_lt}
+use Rattle.std.proofs.Common.{◌≢◌, List, ℕ, ◌≤◌, ◌<◌, ◌+◌, ◌-◌}
 use Rattle.theory.specs.Fn.{at}
 use Rattle.lent.specs.Mem.{up}
-use Rattle.theory.specs.Says.{f≢}
-use Rattle.theory.specs.Depth.{Ends, Right, depth, depth_le, depth_zero, right_zero}
-use Rattle.ends.specs.Say.{Given, Climbed, Assigned, Better}
+use Rattle.ends.specs.Say.{Better}
 use Rattle.ends.proofs.fill.Given as goal
 
 pub record Filling (up : ℕ → ℕ) (dep₀ dep : List ℕ) (c x : ℕ) : Type 0 where

@@ -1,6 +1,4 @@
-use Rattle.lent.specs.Mem.{up}
-use Rattle.std.proofs.Common.{◌≡◌, sym, ◌≢◌, ⊎_elim, List, ℕ, ◌≤◌, ◌<◌, ◌+◌, ◌-◌, arith}
-use Rattle.std.proofs.Math.Decide.{ℕ_discrete}
+use Rattle.std.proofs.Common.{sym, ◌≢◌, List, ℕ, ◌≤◌, ◌<◌, arith}
 use Rattle.theory.specs.Fn.{at}
 use Rattle.theory.specs.Says.{f≢}
 use Rattle.theory.specs.Depth.{Ends, deeper, ranked}

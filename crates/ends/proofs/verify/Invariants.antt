@@ -1,10 +1,6 @@
 use Rattle.lent.specs.Mem.{up}
-use Rattle.std.proofs.Common.{◌≡◌, sym, ◌≢◌, ⊎_elim, List, ℕ, ◌≤◌, ◌<◌, ◌+◌, ◌-◌, arith}
-use Rattle.std.proofs.Math.Decide.{ℕ_discrete}
+use Rattle.std.proofs.Common.{◌≢◌, ℕ, ◌≤◌, ◌<◌, ◌+◌, ◌-◌}
 use Rattle.theory.specs.Fn.{at}
-use Rattle.theory.specs.Says.{f≢}
-use Rattle.theory.specs.Depth.{Ends, deeper, ranked}
-use Rattle.ends.specs.Say.{Given, Known}
 use Rattle.ends.proofs.verify.Given as goal
 
 abbrev pub invariant-loop-n : goal.invariant-loop-n

@@ -1,5 +1,4 @@
 use Rattle.insertion.proofs.ElementLaws as laws
-use Rattle.std.proofs.Common.{rules}
 use Rattle.insertion.proofs.bad_pairs.Goals as goal
 
 pub returns-then-count-gt16 : goal.returns-then-count-gt16

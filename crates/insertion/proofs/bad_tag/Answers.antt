@@ -1,6 +1,4 @@
-use Rattle.std.proofs.lemmas.Bool.{not-true, not-false}
 use Rattle.insertion.proofs.ElementLaws as laws
-use Rattle.std.proofs.Common.{rules}
 use Rattle.insertion.proofs.bad_tag.Goals as goal
 
 pub returns-then-ns-gt-SVG : goal.returns-then-ns-gt-SVG

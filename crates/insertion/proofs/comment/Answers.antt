@@ -1,5 +1,5 @@
 use Rattle.insertion.proofs.Laws as laws
-use Rattle.std.proofs.Common.{refl, rules}
+use Rattle.std.proofs.Common.{refl}
 use Rattle.insertion.proofs.comment.Goals as goal
 
 pub returns-in-0 : goal.returns-in-0

@@ -1,7 +1,6 @@
 use Rattle.standard.specs.Insertion.{new_tag}
 use Rattle.insertion.proofs.ElementLaws as laws
 use Rattle.state.specs.Full.{full}
-use Rattle.std.proofs.Common.{rules}
 use Rattle.insertion.proofs.element.Goals as goal
 
 pub returns-then-bad_tag : goal.returns-then-bad_tag

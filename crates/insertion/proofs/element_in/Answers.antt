@@ -1,4 +1,4 @@
-use Rattle.std.proofs.Common.{◌∙◌, arith, rules}
+use Rattle.std.proofs.Common.{arith}
 use Rattle.insertion.proofs.ElementLaws as laws
 use Rattle.standard.specs.Pairs.{pairs_in}
 use Rattle.insertion.proofs.element_in.Goals as goal

@@ -1,4 +1,4 @@
-use Rattle.std.proofs.Common.{[], refl, sym, ◌∙◌, arith, rules}
+use Rattle.std.proofs.Common.{[], sym, ◌∙◌}
 use Rattle.state.specs.declared.Context.TheVariants.{None}
 use Rattle.state.specs.Full.{full}
 use Rattle.standard.specs.Pairs.{pairs_in}

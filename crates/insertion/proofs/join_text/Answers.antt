@@ -1,4 +1,4 @@
-use Rattle.std.proofs.Common.{arith, refl, rules}
+use Rattle.std.proofs.Common.{arith}
 use Rattle.insertion.proofs.Laws as laws
 use Rattle.lent.proofs.Lowest.{pieces_few}
 use Rattle.insertion.proofs.join_text.Goals as goal

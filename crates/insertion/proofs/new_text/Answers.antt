@@ -1,4 +1,4 @@
-use Rattle.std.proofs.Common.{arith, refl, ◌∙◌, rules}
+use Rattle.std.proofs.Common.{arith}
 use Rattle.insertion.proofs.Laws as laws
 use Rattle.lent.proofs.Lowest.{nodes_few, pieces_few}
 use Rattle.insertion.proofs.new_text.Goals as goal

@@ -1,5 +1,4 @@
 use Rattle.insertion.proofs.ElementLaws as laws
-use Rattle.std.proofs.Common.{rules}
 use Rattle.insertion.proofs.push_if.Goals as goal
 
 pub returns-then-push : goal.returns-then-push

@@ -1,5 +1,4 @@
 use Rattle.insertion.proofs.Laws as laws
-use Rattle.std.proofs.Common.{rules}
 use Rattle.insertion.proofs.text.Goals as goal
 
 pub returns-then-b-eq-NONE : goal.returns-then-b-eq-NONE

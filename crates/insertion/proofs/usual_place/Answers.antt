@@ -1,4 +1,4 @@
-use Rattle.std.proofs.Common.{arith, rules}
+use Rattle.std.proofs.Common.{arith}
 use Rattle.location.proofs.Laws as laws
 use Rattle.insertion.proofs.usual_place.Goals as goal
 

@@ -1,5 +1,4 @@
-use Rattle.std.proofs.Common.{rules, refl, sym, ◌∙◌, arith, eq-eqb, ne_eqb}
-use Rattle.lent.specs.Mem.{field}
+use Rattle.std.proofs.Common.{refl, sym, ◌∙◌, arith, eq-eqb, ne_eqb}
 use Rattle.links.specs.Links.{bare_of}
 use Rattle.links.proofs.bare.Goals as goal
 

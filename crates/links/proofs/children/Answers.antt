@@ -1,4 +1,4 @@
-use Rattle.std.proofs.Common.{ap, not, rules, arith}
+use Rattle.std.proofs.Common.{ap, not, arith}
 use Rattle.theory.specs.Says.{says_no, says_leb, passed, failed}
 use Rattle.links.specs.Links.{counted→children, children→counted, children→nodes}
 use Rattle.links.proofs.children.Goals as goal

@@ -1,7 +1,7 @@
-use Rattle.std.proofs.Common.{◌≡◌, ◌<◌, ◌+◌, arith, length}
-use Rattle.lent.specs.Mem.{field, NEXT}
+use Rattle.std.proofs.Common.{arith}
+use Rattle.lent.specs.Mem.{NEXT}
 use Rattle.links.specs.Links.{field_of}
-use Rattle.theory.specs.Pigeon.{walk, walk_none, walk_out, walk_more}
+use Rattle.theory.specs.Pigeon.{walk_none, walk_out, walk_more}
 use Rattle.links.proofs.met.Goals as goal
 
 pub returns-then-at-eq0 : goal.returns-then-at-eq0

@@ -1,7 +1,7 @@
-use Rattle.std.proofs.Common.{◌≡◌, ◌<◌, ◌+◌, arith, length}
-use Rattle.lent.specs.Mem.{field, NEXT}
+use Rattle.std.proofs.Common.{◌≡◌, ◌<◌, ◌+◌, length}
+use Rattle.lent.specs.Mem.{NEXT}
 use Rattle.links.specs.Links.{field_of}
-use Rattle.theory.specs.Pigeon.{walk, walk_none, walk_out, walk_more}
+use Rattle.theory.specs.Pigeon.{walk}
 use Rattle.links.proofs.met.Given as goal
 
 abbrev pub invariant-loop-left : goal.invariant-loop-left

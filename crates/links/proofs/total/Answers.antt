@@ -1,7 +1,5 @@
-use Rattle.std.proofs.Common.{◌≡◌, ◌≤◌, ◌+◌, ◌-◌, ◌*◌, arith, length}
-use Rattle.lent.specs.Mem.{field, PARENT}
-use Rattle.theory.specs.Count.{lists, roots}
-use Rattle.links.specs.Links.{kids_of, field_of, total_step, total_none}
+use Rattle.std.proofs.Common.{arith}
+use Rattle.links.specs.Links.{total_step, total_none}
 use Rattle.links.proofs.total.Goals as goal
 
 pub loop-x-init : goal.loop-x-init

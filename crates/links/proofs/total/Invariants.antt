@@ -1,7 +1,7 @@
-use Rattle.std.proofs.Common.{◌≡◌, ◌≤◌, ◌+◌, ◌-◌, ◌*◌, arith, length}
-use Rattle.lent.specs.Mem.{field, PARENT}
+use Rattle.std.proofs.Common.{◌≡◌, ◌≤◌, ◌+◌, ◌-◌, ◌*◌, length}
+use Rattle.lent.specs.Mem.{PARENT}
 use Rattle.theory.specs.Count.{lists, roots}
-use Rattle.links.specs.Links.{kids_of, field_of, total_step, total_none}
+use Rattle.links.specs.Links.{kids_of, field_of}
 use Rattle.links.proofs.total.Given as goal
 
 abbrev pub invariant-loop-x : goal.invariant-loop-x

@@ -1,5 +1,4 @@
-use Rattle.std.proofs.Common.{sym, ◌∙◌, ◌≢◌, ℕ, ◌≤◌, ◌<◌, ◌+◌, ◌-◌, arith}
-use Rattle.theory.specs.Says.{says_yes, says_no, below}
+use Rattle.std.proofs.Common.{◌≢◌, ℕ, ◌≤◌, ◌<◌, ◌+◌, ◌-◌}
 use Rattle.nodes.specs.Nodes.{name_of}
 use Rattle.nodes.proofs.absent.Given as goal
 

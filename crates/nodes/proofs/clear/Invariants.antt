@@ -1,7 +1,5 @@
-use Rattle.std.proofs.Common.{◌≡◌, sym, ◌∙◌, ℕ, ◌+◌, ◌≤◌, ◌<◌, ◌-◌, arith}
-use Rattle.std.proofs.Math.Decide.{ℕ_discrete}
+use Rattle.std.proofs.Common.{◌≡◌, ℕ, ◌≤◌, ◌<◌, ◌-◌}
 use Rattle.lent.specs.Mem.{field}
-use Rattle.theory.specs.Says.{says_yes, says_no}
 use Rattle.nodes.proofs.clear.Given as goal
 
 abbrev pub invariant-loop-f : goal.invariant-loop-f

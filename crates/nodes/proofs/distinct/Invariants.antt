@@ -1,5 +1,4 @@
-use Rattle.std.proofs.Common.{◌≢◌, ℕ, ◌≤◌, ◌<◌, ◌+◌, ◌-◌, arith}
-use Rattle.theory.specs.Says.{says_yes, says_no, passed, failed, below}
+use Rattle.std.proofs.Common.{◌≢◌, ℕ, ◌≤◌, ◌<◌, ◌+◌, ◌-◌}
 use Rattle.nodes.specs.Nodes.{name_of}
 use Rattle.nodes.proofs.distinct.Given as goal
 

@@ -1,7 +1,6 @@
-use Rattle.std.proofs.Common.{◌≡◌, refl, ap, ◌∙◌, ℕ, suc, ◌≤◌, arith, length, length-set}
-use Rattle.lent.specs.Mem.{up}
-use Rattle.theory.specs.Depth.{depth, deeper}
-use Rattle.theory.specs.Nearest.{Memo, memo_set}
+use Rattle.std.proofs.Common.{ap, ◌∙◌, suc, arith, length-set}
+use Rattle.theory.specs.Depth.{deeper}
+use Rattle.theory.specs.Nearest.{memo_set}
 use Rattle.order.proofs.mark.Goals as goal
 
 pub returns-then-near-z-ne0 : goal.returns-then-near-z-ne0

@@ -1,7 +1,7 @@
-use Rattle.std.proofs.Common.{◌≡◌, refl, ap, ◌∙◌, ℕ, suc, ◌≤◌, arith, length, length-set}
+use Rattle.std.proofs.Common.{◌≡◌, ℕ, suc, ◌≤◌, length}
 use Rattle.lent.specs.Mem.{up}
-use Rattle.theory.specs.Depth.{depth, deeper}
-use Rattle.theory.specs.Nearest.{Memo, memo_set}
+use Rattle.theory.specs.Depth.{depth}
+use Rattle.theory.specs.Nearest.{Memo}
 use Rattle.order.proofs.mark.Given as goal
 
 abbrev pub invariant-loop-z : goal.invariant-loop-z

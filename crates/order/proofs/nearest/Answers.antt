@@ -1,7 +1,5 @@
-use Rattle.std.proofs.Common.{◌≡◌, refl, sym, ap, ◌∙◌, ℕ, suc, ◌≤◌, arith}
-use Rattle.lent.specs.Mem.{up}
-use Rattle.theory.specs.Depth.{depth, deeper}
-use Rattle.theory.specs.Nearest.{Memo}
+use Rattle.std.proofs.Common.{sym, ap, ◌∙◌, suc, arith}
+use Rattle.theory.specs.Depth.{deeper}
 use Rattle.order.proofs.nearest.Goals as goal
 
 pub returns-then-v-ne0 : goal.returns-then-v-ne0

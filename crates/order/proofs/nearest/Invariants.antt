@@ -1,6 +1,6 @@
-use Rattle.std.proofs.Common.{◌≡◌, refl, sym, ap, ◌∙◌, ℕ, suc, ◌≤◌, arith}
+use Rattle.std.proofs.Common.{◌≡◌, ℕ, ◌≤◌}
 use Rattle.lent.specs.Mem.{up}
-use Rattle.theory.specs.Depth.{depth, deeper}
+use Rattle.theory.specs.Depth.{depth}
 use Rattle.theory.specs.Nearest.{Memo}
 use Rattle.order.proofs.nearest.Given as goal
 

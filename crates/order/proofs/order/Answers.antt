@@ -1,12 +1,9 @@
-use Rattle.std.proofs.Common.{rules, ◌≡◌, Bool, true, List, ℕ, ◌≤◌, ◌<◌, arith, length, take}
-use Rattle.std.proofs.lemmas.Bool.{not-true, not-false}
-use Rattle.std.proofs.Math.ListN.{length-replicate}
-use Rattle.theory.specs.Fn.{at}
+use Rattle.std.proofs.Common.{Bool, List, ℕ, ◌≤◌, length, take}
 use Rattle.theory.specs.Says.{Says, says_no}
 use Rattle.theory.specs.Depth.{InRange, Ends}
 use Rattle.theory.specs.Natural.{Natural}
 use Rattle.theory.specs.Nearest.{Placed, blank_none, nearest, memo_of, order→natural, natural→order, natural→apart}
-use Rattle.order.specs.Say.{Given, Put, Ordered}
+use Rattle.order.specs.Say.{Ordered}
 use Rattle.order.proofs.order.Goals as goal
 
 verdict : {f : ℕ → ℕ} {l near : List ℕ} {d c : ℕ} {r : Bool} → d ≤ length l → InRange f c → Ends f c → Placed c l d near

@@ -1,10 +1,9 @@
 use Rattle.order.proofs.ordered.Invariants.{Going}
-use Rattle.std.proofs.Common.{◌≡◌, refl, sym, ◌∙◌, List, ℕ, ◌≤◌, ◌<◌, ◌+◌, ◌-◌, arith, length}
-use Rattle.lent.specs.Mem.{up}
+use Rattle.std.proofs.Common.{◌≡◌, ◌∙◌, List, ℕ, ◌≤◌, ◌<◌, ◌+◌, arith}
 use Rattle.theory.specs.Fn.{at}
 use Rattle.theory.specs.Says.{f≢, below}
 use Rattle.theory.specs.Nearest.{Memo}
-use Rattle.order.specs.Say.{Given, Found, Marked}
+use Rattle.order.specs.Say.{Found, Marked}
 use Rattle.order.proofs.ordered.Goals as goal
 
 step : {f : ℕ → ℕ} {l near₀ near near' : List ℕ} {c i p v : ℕ} → Going f l near₀ near c i → p ≡ f (at l i)

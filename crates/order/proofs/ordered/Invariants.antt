@@ -1,9 +1,7 @@
-use Rattle.std.proofs.Common.{◌≡◌, refl, sym, ◌∙◌, List, ℕ, ◌≤◌, ◌<◌, ◌+◌, ◌-◌, arith, length}
+use Rattle.std.proofs.Common.{◌≡◌, List, ℕ, ◌≤◌, ◌<◌, ◌-◌, length}
 use Rattle.lent.specs.Mem.{up}
 use Rattle.theory.specs.Fn.{at}
-use Rattle.theory.specs.Says.{f≢, below}
 use Rattle.theory.specs.Nearest.{Memo}
-use Rattle.order.specs.Say.{Given, Found, Marked}
 use Rattle.order.proofs.ordered.Given as goal
 
 pub record Going (f : ℕ → ℕ) (l near₀ near : List ℕ) (c i : ℕ) : Type 0 where

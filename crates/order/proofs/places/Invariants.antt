@@ -1,8 +1,5 @@
-use Rattle.std.proofs.Common.{◌≡◌, refl, sym, ◌∙◌, ◌≤◌, ◌-◌, arith, length, length-set}
-use Rattle.theory.specs.Fn.{at}
-use Rattle.theory.specs.Says.{f≢}
-use Rattle.theory.specs.Depth.{depth}
-use Rattle.theory.specs.Nearest.{Placed, placed_none, placed_set, again}
+use Rattle.std.proofs.Common.{◌≡◌, ◌≤◌, ◌-◌, length}
+use Rattle.theory.specs.Nearest.{Placed}
 use Rattle.order.proofs.places.Given as goal
 
 abbrev pub invariant-loop-i : goal.invariant-loop-i

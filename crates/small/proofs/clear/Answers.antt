@@ -1,5 +1,4 @@
 use Rattle.small.proofs.Laws as laws
-use Rattle.std.proofs.Common.{rules}
 use Rattle.small.proofs.clear.Goals as goal
 
 pub returns : goal.returns

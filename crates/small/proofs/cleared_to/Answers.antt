@@ -1,4 +1,4 @@
-use Rattle.std.proofs.Common.{◌∙◌, sym, arith, rules}
+use Rattle.std.proofs.Common.{◌∙◌, sym, arith}
 use Rattle.places.proofs.Laws.{place_lt}
 use Rattle.small.proofs.Laws as laws
 use Rattle.small.proofs.cleared_to.Goals as goal

@@ -1,5 +1,4 @@
 use Rattle.small.proofs.Laws as laws
-use Rattle.std.proofs.Common.{rules}
 use Rattle.small.proofs.foster.Goals as goal
 
 pub returns-then-on-gt1 : goal.returns-then-on-gt1

@@ -1,5 +1,4 @@
 use Rattle.small.proofs.Laws as laws
-use Rattle.std.proofs.Common.{rules}
 use Rattle.small.proofs.marker.Goals as goal
 
 pub returns-then-at-least : goal.returns-then-at-least

@@ -1,5 +1,4 @@
 use Rattle.small.proofs.Laws as laws
-use Rattle.std.proofs.Common.{rules}
 use Rattle.small.proofs.pop.Goals as goal
 
 pub returns-then-depth-lt2 : goal.returns-then-depth-lt2

@@ -1,5 +1,4 @@
 use Rattle.small.proofs.Laws as laws
-use Rattle.std.proofs.Common.{rules}
 use Rattle.small.proofs.pop_mode.Goals as goal
 
 pub returns-then-at-gt0 : goal.returns-then-at-gt0

@@ -1,4 +1,4 @@
-use Rattle.std.proofs.Common.{inl, inr, rules}
+use Rattle.std.proofs.Common.{inl, inr}
 use Rattle.small.proofs.Laws as laws
 use Rattle.small.proofs.push_mode.Goals as goal
 

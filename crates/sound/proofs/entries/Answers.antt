@@ -1,6 +1,5 @@
-use Rattle.std.proofs.Common.{ap, not, ℕ, ◌≤◌, ◌<◌, ◌-◌, arith}
-use Rattle.theory.specs.Says.{says_yes, says_no, passed, failed, below}
-use Rattle.sound.specs.Sound.{Entry}
+use Rattle.std.proofs.Common.{ap, not, arith}
+use Rattle.theory.specs.Says.{passed, below}
 use Rattle.sound.proofs.entries.Goals as goal
 
 pub loop-i-preserved : goal.loop-i-preserved

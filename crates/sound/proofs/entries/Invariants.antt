@@ -1,5 +1,4 @@
-use Rattle.std.proofs.Common.{ℕ, ◌≤◌, ◌<◌, ◌-◌, arith}
-use Rattle.theory.specs.Says.{says_yes, says_no, passed, failed, below}
+use Rattle.std.proofs.Common.{ℕ, ◌≤◌, ◌<◌, ◌-◌}
 use Rattle.sound.specs.Sound.{Entry}
 use Rattle.sound.proofs.entries.Given as goal
 

@@ -1,6 +1,5 @@
-use Rattle.std.proofs.Common.{ap, not, ℕ, ◌≤◌, ◌<◌, ◌+◌, ◌-◌, arith}
-use Rattle.theory.specs.Says.{says_yes, says_no, passed, failed, more}
-use Rattle.nodes.specs.Nodes.{Kind}
+use Rattle.std.proofs.Common.{ap, not, arith}
+use Rattle.theory.specs.Says.{passed, more}
 use Rattle.sound.proofs.kinds.Goals as goal
 
 pub loop-x-preserved : goal.loop-x-preserved

@@ -1,5 +1,4 @@
-use Rattle.std.proofs.Common.{ℕ, ◌≤◌, ◌<◌, ◌+◌, ◌-◌, arith}
-use Rattle.theory.specs.Says.{says_yes, says_no, passed, failed, more}
+use Rattle.std.proofs.Common.{ℕ, ◌≤◌, ◌<◌, ◌+◌, ◌-◌}
 use Rattle.nodes.specs.Nodes.{Kind}
 use Rattle.sound.proofs.kinds.Given as goal
 

@@ -1,6 +1,4 @@
-use Rattle.std.proofs.Common.{◌≡◌, sym, ap, ◌∙◌, true, ℕ, ◌≤◌, ◌<◌, ◌-◌, arith, rules}
-use Rattle.std.proofs.lemmas.Bool.{not-true, not-false}
-use Rattle.theory.specs.Says.{says_yes, says_no, below, f≢}
+use Rattle.std.proofs.Common.{◌≡◌, true, ℕ, ◌≤◌, ◌<◌, ◌-◌}
 use Rattle.names.specs.Numbers.{is_name}
 use Rattle.nodes.specs.Nodes.{name_of}
 use Rattle.sound.proofs.known.Given as goal

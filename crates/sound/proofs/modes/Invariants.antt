@@ -1,6 +1,5 @@
-use Rattle.std.proofs.Common.{ℕ, ◌≤◌, ◌<◌, ◌-◌, arith}
+use Rattle.std.proofs.Common.{ℕ, ◌≤◌, ◌<◌, ◌-◌}
 use Rattle.theory.specs.Fn.{at}
-use Rattle.theory.specs.Says.{says_yes, says_no, below}
 use Rattle.sound.proofs.modes.Given as goal
 
 abbrev pub invariant-loop-i : goal.invariant-loop-i

@@ -1,7 +1,6 @@
-use Rattle.std.proofs.Common.{◌≡◌, sym, ◌∙◌, ℕ, ◌≤◌, ◌<◌, ◌-◌, arith}
+use Rattle.std.proofs.Common.{◌≡◌, ℕ, ◌≤◌, ◌<◌, ◌-◌}
 use Rattle.lent.specs.Mem.{field, KIND}
 use Rattle.theory.specs.Fn.{at}
-use Rattle.theory.specs.Says.{says_yes, says_no, below}
 use Rattle.sound.proofs.open.Given as goal
 
 abbrev pub invariant-loop-i : goal.invariant-loop-i

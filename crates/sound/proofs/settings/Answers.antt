@@ -1,5 +1,5 @@
-use Rattle.std.proofs.Common.{◌≡◌, Bool, ℕ, ◌≤◌, arith, rules}
-use Rattle.theory.specs.Says.{Says, says_yes, says_no, says_map}
+use Rattle.std.proofs.Common.{◌≡◌, Bool, ℕ, ◌≤◌}
+use Rattle.theory.specs.Says.{Says, says_yes, says_map}
 use Rattle.nodes.specs.Nodes.{Tag}
 use Rattle.state.specs.declared.Context.{Context}
 use Rattle.state.specs.declared.Context.TheVariants.{None, Element}

@@ -1,5 +1,5 @@
-use Rattle.std.proofs.Common.{ap, not, rules}
-use Rattle.theory.specs.Says.{says_no, says_map, passed, failed}
+use Rattle.std.proofs.Common.{ap, not}
+use Rattle.theory.specs.Says.{passed}
 use Rattle.sound.proofs.Range.{in_range}
 use Rattle.sound.proofs.tree.Goals as goal
 

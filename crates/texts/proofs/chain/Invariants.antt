@@ -1,7 +1,6 @@
-use Rattle.std.proofs.Common.{◌≡◌, refl, List, ℕ, ◌<◌, ◌+◌, ◌-◌, arith, length}
+use Rattle.std.proofs.Common.{◌<◌, ◌+◌, ◌-◌}
 use Rattle.texts.specs.Texts.{after}
-use Rattle.texts.specs.Pieces.{Met, Unmet, met_none, met_few, met_more, deny_far, deny_seen, deny_last, deny_none}
-use Rattle.texts.specs.Say.{Chained}
+use Rattle.texts.specs.Pieces.{Met}
 use Rattle.texts.proofs.chain.Given as goal
 
 abbrev pub invariant-loop-y : goal.invariant-loop-y

@@ -1,4 +1,4 @@
-use Rattle.std.proofs.Common.{◌≡◌, refl, ◌∙◌, ◌≢◌, List, ℕ, ◌≤◌, ◌<◌, ◌+◌, ◌-◌, arith, add-one, length}
+use Rattle.std.proofs.Common.{◌≡◌, refl, ◌∙◌, ◌≢◌, List, ℕ, ◌<◌, ◌+◌, ◌-◌, arith, add-one}
 use Rattle.theory.specs.Says.{says_no, says_eqb}
 use Rattle.texts.specs.Texts.{Texts, Going, going_none, going_few, going_more, deny_node, done_all, deny_all}
 use Rattle.texts.specs.Say.{Texted}

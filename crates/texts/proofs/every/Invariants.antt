@@ -1,7 +1,5 @@
-use Rattle.std.proofs.Common.{◌≡◌, refl, ◌∙◌, ◌≢◌, List, ℕ, ◌≤◌, ◌<◌, ◌+◌, ◌-◌, arith, add-one, length}
-use Rattle.theory.specs.Says.{says_no, says_eqb}
-use Rattle.texts.specs.Texts.{Texts, Going, going_none, going_few, going_more, deny_node, done_all, deny_all}
-use Rattle.texts.specs.Say.{Texted}
+use Rattle.std.proofs.Common.{◌≡◌, ◌≤◌, ◌-◌, length}
+use Rattle.texts.specs.Texts.{Going}
 use Rattle.texts.proofs.every.Given as goal
 
 abbrev pub invariant-loop-n : goal.invariant-loop-n

@@ -1,6 +1,6 @@
-use Rattle.std.proofs.Common.{rules, ◌≡◌, refl, sym, ◌∙◌, ◌≢◌, List, ℕ, ◌+◌, arith}
+use Rattle.std.proofs.Common.{◌≡◌, refl, sym, ◌∙◌, ◌≢◌, List, ℕ, ◌+◌, arith}
 use Rattle.lent.specs.Mem.{field, KIND, PIECE, END}
-use Rattle.texts.specs.Texts.{after, told_other, told_text, untold_text}
+use Rattle.texts.specs.Texts.{after, told_other, told_text}
 use Rattle.texts.specs.Say.{Chained, Texted}
 use Rattle.texts.proofs.text.Goals as goal
 

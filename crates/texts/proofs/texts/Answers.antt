@@ -1,5 +1,3 @@
-use Rattle.std.proofs.Common.{rules, ℕ, arith}
-use Rattle.std.proofs.Math.ListN.{length-replicate}
 use Rattle.theory.specs.Says.{zeros, says_map}
 use Rattle.texts.specs.Words.{texts→words, words→texts}
 use Rattle.texts.proofs.texts.Goals as goal

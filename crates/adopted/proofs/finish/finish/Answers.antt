@@ -1,5 +1,5 @@
 use Rattle.adopted.proofs.FinishLaws as laws
-use Rattle.std.proofs.Common.{arith, rules}
+use Rattle.std.proofs.Common.{arith}
 use Rattle.adopted.proofs.finish.finish.Goals as goal
 
 pub returns-clause-counts : goal.returns-clause-counts

@@ -1,5 +1,4 @@
 use Rattle.adopted.proofs.FinishLaws as laws
-use Rattle.std.proofs.Common.{rules}
 use Rattle.adopted.proofs.finish.place_last.Goals as goal
 
 pub returns : goal.returns

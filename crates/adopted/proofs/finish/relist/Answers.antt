@@ -1,5 +1,5 @@
 use Rattle.adopted.proofs.FinishLaws as laws
-use Rattle.std.proofs.Common.{arith, rules}
+use Rattle.std.proofs.Common.{arith}
 use Rattle.adopted.proofs.finish.relist.Goals as goal
 
 pub returns-in-Replace : goal.returns-in-Replace

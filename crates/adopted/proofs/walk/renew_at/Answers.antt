@@ -1,5 +1,4 @@
 use Rattle.adopted.proofs.WalkLaws as laws
-use Rattle.std.proofs.Common.{rules}
 use Rattle.adopted.proofs.walk.renew_at.Goals as goal
 
 pub returns-clause-counts : goal.returns-clause-counts

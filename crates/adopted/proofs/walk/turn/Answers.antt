@@ -1,5 +1,5 @@
 use Rattle.adopted.proofs.WalkLaws as laws
-use Rattle.std.proofs.Common.{sym, ◌∙◌, arith, rules}
+use Rattle.std.proofs.Common.{sym, ◌∙◌, arith}
 use Rattle.places.proofs.Laws.{place_lt}
 use Rattle.adopted.proofs.walk.turn.Goals as goal
 

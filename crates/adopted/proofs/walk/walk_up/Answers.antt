@@ -1,8 +1,5 @@
 use Rattle.adopted.proofs.WalkLaws as laws
-use Rattle.std.proofs.Common.{rules, ℕ, ◌+◌, ◌-◌, ◌<◌, ◌≤◌, ◌≡◌, refl, ◌∙◌, List, arith, length}
-use Rattle.state.specs.declared.Context.{Context}
-use Rattle.state.specs.Full.{full}
-use Rattle.adopted.specs.Bookmark.{inner_at, inner}
+use Rattle.std.proofs.Common.{rules, ◌∙◌, arith}
 use Rattle.adopted.proofs.walk.walk_up.Goals as goal
 
 pub returns-then-h-at-clause-outcome : goal.returns-then-h-at-clause-outcome

@@ -1,5 +1,4 @@
-use Rattle.adopted.proofs.WalkLaws as laws
-use Rattle.std.proofs.Common.{rules, ℕ, ◌+◌, ◌-◌, ◌<◌, ◌≤◌, ◌≡◌, refl, ◌∙◌, List, arith, length}
+use Rattle.std.proofs.Common.{ℕ, ◌+◌, ◌-◌, ◌<◌, ◌≤◌, ◌≡◌, List, length}
 use Rattle.state.specs.declared.Context.{Context}
 use Rattle.state.specs.Full.{full}
 use Rattle.adopted.specs.Bookmark.{inner_at, inner}

@@ -1,4 +1,4 @@
-use Rattle.std.proofs.Common.{sym, ◌∙◌, rules}
+use Rattle.std.proofs.Common.{sym, ◌∙◌}
 use Rattle.dump.proofs.OrderLaws.{beside_contents, beside_other}
 use Rattle.dump.proofs.order.beside.Goals as goal
 

@@ -1,4 +1,4 @@
-use Rattle.std.proofs.Common.{sym, ◌∙◌, arith, rules}
+use Rattle.std.proofs.Common.{sym, ◌∙◌, arith}
 use Rattle.dump.proofs.OrderLaws.{extra_plain, extra_contents}
 use Rattle.dump.proofs.order.extra_lines.Goals as goal
 

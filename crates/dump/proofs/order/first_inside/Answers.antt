@@ -1,4 +1,4 @@
-use Rattle.std.proofs.Common.{sym, ◌∙◌, rules}
+use Rattle.std.proofs.Common.{sym, ◌∙◌}
 use Rattle.dump.proofs.OrderLaws.{inside_none, inside_some}
 use Rattle.dump.proofs.order.first_inside.Goals as goal
 

@@ -1,4 +1,4 @@
-use Rattle.std.proofs.Common.{arith, rules}
+use Rattle.std.proofs.Common.{arith}
 use Rattle.dump.specs.Order.{level_down}
 use Rattle.dump.proofs.order.level_down.Goals as goal
 

@@ -1,5 +1,4 @@
-use Rattle.std.proofs.Common.{◌≡◌, refl, sym, ◌∙◌, rules}
-use Rattle.dump.specs.Order.{line_beside}
+use Rattle.std.proofs.Common.{sym, ◌∙◌}
 use Rattle.dump.proofs.OrderLaws.{past_spent, past_document, past_found, past_step}
 use Rattle.dump.proofs.order.line_beside.Goals as goal
 

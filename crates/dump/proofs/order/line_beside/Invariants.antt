@@ -1,6 +1,5 @@
-use Rattle.std.proofs.Common.{◌≡◌, refl, sym, ◌∙◌, rules}
+use Rattle.std.proofs.Common.{◌≡◌}
 use Rattle.dump.specs.Order.{line_beside}
-use Rattle.dump.proofs.OrderLaws.{past_spent, past_document, past_found, past_step}
 use Rattle.dump.proofs.order.line_beside.Given as goal
 
 abbrev pub invariant-loop-left : goal.invariant-loop-left

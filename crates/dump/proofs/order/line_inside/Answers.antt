@@ -1,4 +1,4 @@
-use Rattle.std.proofs.Common.{sym, ◌∙◌, rules}
+use Rattle.std.proofs.Common.{sym, ◌∙◌}
 use Rattle.dump.proofs.OrderLaws.{after_contents, after_child, after_leaf}
 use Rattle.dump.proofs.order.line_inside.Goals as goal
 

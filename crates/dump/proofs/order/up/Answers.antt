@@ -1,4 +1,4 @@
-use Rattle.std.proofs.Common.{sym, ◌∙◌, rules}
+use Rattle.std.proofs.Common.{sym, ◌∙◌}
 use Rattle.dump.proofs.OrderLaws.{up_contents, up_other}
 use Rattle.dump.proofs.order.up.Goals as goal
 

@@ -1,4 +1,3 @@
-use Rattle.std.proofs.Common.{rules}
 use Rattle.dump.proofs.WrittenLaws.{wrote_byte, wrote_past}
 use Rattle.dump.proofs.put.byte.Goals as goal
 

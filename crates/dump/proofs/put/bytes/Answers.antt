@@ -1,5 +1,4 @@
-use Rattle.std.proofs.Common.{◌≡◌, refl, ◌≤◌, ◌-◌, arith, length, take, take_all, rules}
-use Rattle.dump.specs.Written.{Wrote}
+use Rattle.std.proofs.Common.{refl, arith, rules}
 use Rattle.dump.proofs.WrittenLaws.{wrote_none, wrote_next}
 use Rattle.dump.proofs.put.bytes.Goals as goal
 

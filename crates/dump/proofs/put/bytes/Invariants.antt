@@ -1,6 +1,5 @@
-use Rattle.std.proofs.Common.{◌≡◌, refl, ◌≤◌, ◌-◌, arith, length, take, take_all, rules}
+use Rattle.std.proofs.Common.{◌≡◌, ◌≤◌, ◌-◌, length, take}
 use Rattle.dump.specs.Written.{Wrote}
-use Rattle.dump.proofs.WrittenLaws.{wrote_none, wrote_next}
 use Rattle.dump.proofs.put.bytes.Given as goal
 
 abbrev pub invariant-loop-i : goal.invariant-loop-i

@@ -1,4 +1,3 @@
-use Rattle.std.proofs.Common.{rules}
 use Rattle.dump.proofs.DigitsLaws.{digit_none, digit_one}
 use Rattle.dump.proofs.put.digit.Goals as goal
 

@@ -1,8 +1,6 @@
-use Rattle.std.proofs.Common.{◌≡◌, refl, ap, ◌≤◌, ◌-◌, arith, length, rules}
+use Rattle.std.proofs.Common.{refl, arith, rules}
 use Rattle.names.specs.Text.{text}
-use Rattle.dump.specs.Line.{indent}
-use Rattle.dump.specs.Written.{Wrote}
-use Rattle.dump.proofs.WrittenLaws.{and_then, wrote_as}
+use Rattle.dump.proofs.WrittenLaws.{and_then}
 use Rattle.dump.proofs.LineLaws.{indent_none, indent_next}
 use Rattle.dump.proofs.put.indent.Goals as goal
 

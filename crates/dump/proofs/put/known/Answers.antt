@@ -1,4 +1,4 @@
-use Rattle.std.proofs.Common.{replicate, lit≤, rules}
+use Rattle.std.proofs.Common.{replicate, lit≤}
 use Rattle.dump.proofs.NameLaws.{name_within, name_count, name_bytes}
 use Rattle.dump.proofs.WrittenLaws.{wrote_as}
 use Rattle.dump.proofs.put.known.Goals as goal

@@ -1,4 +1,4 @@
-use Rattle.std.proofs.Common.{ap, [], ◌∷◌, ℕ, rules}
+use Rattle.std.proofs.Common.{ap, [], ◌∷◌, ℕ}
 use Rattle.dump.specs.Digits.{digits}
 use Rattle.dump.proofs.WrittenLaws.{and_then, wrote_as}
 use Rattle.dump.proofs.put.number.Goals as goal

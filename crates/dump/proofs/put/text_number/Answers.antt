@@ -1,4 +1,3 @@
-use Rattle.std.proofs.Common.{rules}
 use Rattle.names.specs.Text.{text}
 use Rattle.dump.specs.Line.{text_number}
 use Rattle.dump.proofs.WrittenLaws.{and_then}

@@ -1,4 +1,4 @@
-use Rattle.std.proofs.Common.{ap, rules}
+use Rattle.std.proofs.Common.{ap}
 use Rattle.names.specs.Text.{text}
 use Rattle.dump.specs.Line.{element_of, space_of, name_of}
 use Rattle.dump.proofs.WrittenLaws.{and_then, wrote_as}

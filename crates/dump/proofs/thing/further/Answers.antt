@@ -1,7 +1,6 @@
-use Rattle.std.proofs.Common.{◌≡◌, refl, ap, List, ℕ, length, rules}
+use Rattle.std.proofs.Common.{ap, rules}
 use Rattle.names.specs.Text.{text}
 use Rattle.dump.specs.Line.{text_number, further}
-use Rattle.dump.specs.Written.{Wrote}
 use Rattle.dump.proofs.WrittenLaws.{and_then, wrote_as}
 use Rattle.dump.proofs.LineLaws.{further_step, further_none, further_end}
 use Rattle.dump.proofs.thing.further.Goals as goal

@@ -1,9 +1,6 @@
-use Rattle.std.proofs.Common.{◌≡◌, refl, ap, List, ℕ, length, rules}
-use Rattle.names.specs.Text.{text}
-use Rattle.dump.specs.Line.{text_number, further}
+use Rattle.std.proofs.Common.{◌≡◌, List, ℕ, length}
+use Rattle.dump.specs.Line.{further}
 use Rattle.dump.specs.Written.{Wrote}
-use Rattle.dump.proofs.WrittenLaws.{and_then, wrote_as}
-use Rattle.dump.proofs.LineLaws.{further_step, further_none, further_end}
 use Rattle.dump.proofs.thing.further.Given as goal
 
 abbrev pub invariant-loop-left : goal.invariant-loop-left

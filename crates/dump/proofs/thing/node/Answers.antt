@@ -1,4 +1,4 @@
-use Rattle.std.proofs.Common.{ap, rules}
+use Rattle.std.proofs.Common.{ap}
 use Rattle.dump.specs.Line.{text_of}
 use Rattle.dump.proofs.WrittenLaws.{wrote_as}
 use Rattle.dump.proofs.LineLaws.{node_element, node_text, node_comment, node_other}

@@ -1,4 +1,4 @@
-use Rattle.std.proofs.Common.{ap, rules}
+use Rattle.std.proofs.Common.{ap}
 use Rattle.names.specs.Text.{text}
 use Rattle.dump.specs.Digits.{digits}
 use Rattle.dump.specs.Line.{pair_of, text_number}

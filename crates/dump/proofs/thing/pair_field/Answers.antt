@@ -1,4 +1,4 @@
-use Rattle.std.proofs.Common.{sym, rules}
+use Rattle.std.proofs.Common.{sym}
 use Rattle.dump.proofs.PairLaws.{no_pair}
 use Rattle.dump.proofs.thing.pair_field.Goals as goal
 

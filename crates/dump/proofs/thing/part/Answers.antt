@@ -1,4 +1,4 @@
-use Rattle.std.proofs.Common.{ap, ◌∙◌, ℕ, ◌+◌, ◌-◌, arith, rules}
+use Rattle.std.proofs.Common.{ap, ◌∙◌, ℕ, ◌+◌, ◌-◌, arith}
 use Rattle.names.specs.Text.{text}
 use Rattle.dump.specs.Line.{pair_of}
 use Rattle.dump.proofs.WrittenLaws.{wrote_as}

@@ -1,4 +1,3 @@
-use Rattle.std.proofs.Common.{rules}
 use Rattle.names.specs.Text.{text}
 use Rattle.dump.proofs.LineLaws.{space_svg, space_math, space_html}
 use Rattle.dump.proofs.thing.space.Goals as goal

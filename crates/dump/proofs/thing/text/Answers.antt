@@ -1,4 +1,4 @@
-use Rattle.std.proofs.Common.{ap, rules}
+use Rattle.std.proofs.Common.{ap}
 use Rattle.dump.specs.Line.{text_number, further}
 use Rattle.dump.proofs.WrittenLaws.{and_then, wrote_as}
 use Rattle.dump.proofs.LineLaws.{text_none, text_some}

@@ -1,5 +1,5 @@
 use Rattle.entries.proofs.SurplusLaws as laws
-use Rattle.std.proofs.Common.{sym, ◌∙◌, arith, rules}
+use Rattle.std.proofs.Common.{sym, ◌∙◌, arith}
 use Rattle.places.proofs.Laws.{place_lt}
 use Rattle.entries.proofs.surplus.after_marker.Goals as goal
 

@@ -1,5 +1,4 @@
-use Rattle.std.proofs.Common.{rules, ◌-◌, ◌≤◌, ◌≡◌, refl, arith, take, drop}
-use Rattle.places.specs.Places.{first_of, first_with}
+use Rattle.std.proofs.Common.{refl, arith}
 use Rattle.places.proofs.Laws.{first_none}
 use Rattle.places.proofs.First.{first_turn, first_end}
 use Rattle.standard.specs.Pairs.{pairs_in}

@@ -1,7 +1,5 @@
-use Rattle.std.proofs.Common.{rules, ◌-◌, ◌≤◌, ◌≡◌, refl, arith, take, drop}
+use Rattle.std.proofs.Common.{◌-◌, ◌≤◌, ◌≡◌, take, drop}
 use Rattle.places.specs.Places.{first_of, first_with}
-use Rattle.places.proofs.Laws.{first_none}
-use Rattle.places.proofs.First.{first_turn, first_end}
 use Rattle.standard.specs.Pairs.{pairs_in}
 use Rattle.standard.specs.Formatting.{same_tag}
 use Rattle.entries.proofs.surplus.first_same.Given as goal

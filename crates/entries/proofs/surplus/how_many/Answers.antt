@@ -1,7 +1,7 @@
 use Rattle.entries.proofs.SurplusLaws as laws
-use Rattle.std.proofs.Common.{rules, ◌+◌, ◌-◌, ◌≤◌, ◌≡◌, arith, take, drop}
+use Rattle.std.proofs.Common.{arith}
 use Rattle.standard.specs.Pairs.{pairs_in}
-use Rattle.standard.specs.Formatting.{same_tag, how_many}
+use Rattle.standard.specs.Formatting.{same_tag}
 use Rattle.entries.proofs.surplus.how_many.Goals as goal
 
 pub loop-i-preserved : goal.loop-i-preserved

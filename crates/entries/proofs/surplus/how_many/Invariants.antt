@@ -1,5 +1,4 @@
-use Rattle.entries.proofs.SurplusLaws as laws
-use Rattle.std.proofs.Common.{rules, ◌+◌, ◌-◌, ◌≤◌, ◌≡◌, arith, take, drop}
+use Rattle.std.proofs.Common.{◌+◌, ◌-◌, ◌≤◌, ◌≡◌, take, drop}
 use Rattle.standard.specs.Pairs.{pairs_in}
 use Rattle.standard.specs.Formatting.{same_tag, how_many}
 use Rattle.entries.proofs.surplus.how_many.Given as goal

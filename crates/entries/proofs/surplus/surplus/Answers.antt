@@ -1,7 +1,6 @@
 use Rattle.entries.proofs.SurplusLaws as laws
 use Rattle.standard.specs.Pairs.{pairs_in}
 use Rattle.standard.specs.Formatting.{same_tag}
-use Rattle.std.proofs.Common.{rules}
 use Rattle.entries.proofs.surplus.surplus.Goals as goal
 
 pub returns-then-how_many-lt3 : goal.returns-then-how_many-lt3

@@ -1,7 +1,5 @@
 use Rattle.entries.proofs.TagLaws as laws
-use Rattle.std.proofs.Common.{rules, ◌+◌, ◌-◌, ◌≤◌, ◌≡◌, arith}
-use Rattle.standard.specs.Pairs.{pairs_in}
-use Rattle.standard.specs.Formatting.{pairs_of, same_pairs}
+use Rattle.std.proofs.Common.{arith}
 use Rattle.entries.proofs.tags.are_same.Goals as goal
 
 pub returns-then-pair_field-p : goal.returns-then-pair_field-p

@@ -1,5 +1,4 @@
-use Rattle.entries.proofs.TagLaws as laws
-use Rattle.std.proofs.Common.{rules, ◌+◌, ◌-◌, ◌≤◌, ◌≡◌, arith}
+use Rattle.std.proofs.Common.{◌+◌, ◌-◌, ◌≤◌, ◌≡◌}
 use Rattle.standard.specs.Pairs.{pairs_in}
 use Rattle.standard.specs.Formatting.{pairs_of, same_pairs}
 use Rattle.entries.proofs.tags.are_same.Given as goal

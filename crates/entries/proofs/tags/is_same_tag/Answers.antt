@@ -1,5 +1,4 @@
 use Rattle.entries.proofs.TagLaws as laws
-use Rattle.std.proofs.Common.{rules}
 use Rattle.entries.proofs.tags.is_same_tag.Goals as goal
 
 pub returns-then-get-t : goal.returns-then-get-t

@@ -1,5 +1,4 @@
 use Rattle.entries.proofs.TagLaws as laws
-use Rattle.std.proofs.Common.{rules}
 use Rattle.entries.proofs.tags.pair_field.Goals as goal
 
 pub returns : goal.returns

@@ -1,7 +1,5 @@
-use Rattle.std.proofs.Common.{rules, ◌≤◌, ◌-◌, ◌≡◌, refl, [], arith, length, take, replicate}
-use Rattle.std.proofs.lemmas.Bool.{not-true, not-false}
-use Rattle.standard.specs.Pairs.{pairs_in, fine}
-use Rattle.insertion.proofs.PairsLaws.{fine_start, fine_turn, fine_end, fine_stop, fine_again}
+use Rattle.std.proofs.Common.{rules, arith}
+use Rattle.insertion.proofs.PairsLaws.{fine_turn, fine_end, fine_stop, fine_again}
 use Rattle.insertion.proofs.pairs.are_fine.Goals as goal
 
 pub returns : goal.returns

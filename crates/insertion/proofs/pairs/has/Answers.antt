@@ -1,5 +1,4 @@
-use Rattle.std.proofs.Common.{rules, ℕ, ◌≤◌, ◌-◌, ◌≡◌, refl, sym, ◌∙◌, ap, false, arith, take}
-use Rattle.names.specs.Sets.{member}
+use Rattle.std.proofs.Common.{arith}
 use Rattle.insertion.proofs.PairsLaws.{member_more, member_hit}
 use Rattle.insertion.proofs.pairs.has.Goals as goal
 

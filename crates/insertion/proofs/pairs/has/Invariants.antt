@@ -1,6 +1,5 @@
-use Rattle.std.proofs.Common.{rules, ℕ, ◌≤◌, ◌-◌, ◌≡◌, refl, sym, ◌∙◌, ap, false, arith, take}
+use Rattle.std.proofs.Common.{◌≤◌, ◌-◌, ◌≡◌, false, take}
 use Rattle.names.specs.Sets.{member}
-use Rattle.insertion.proofs.PairsLaws.{member_more, member_hit}
 use Rattle.insertion.proofs.pairs.has.Given as goal
 
 abbrev pub invariant-loop-i : goal.invariant-loop-i

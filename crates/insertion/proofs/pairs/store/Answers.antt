@@ -1,6 +1,5 @@
-use Rattle.std.proofs.Common.{rules, ◌≤◌, ◌-◌, ◌+◌, ◌≡◌, refl, arith, length}
-use Rattle.standard.specs.Pairs.{pairs_in, stored}
-use Rattle.insertion.proofs.PairsLaws.{stored_start, stored_turn, stored_end}
+use Rattle.std.proofs.Common.{rules, arith}
+use Rattle.insertion.proofs.PairsLaws.{stored_turn, stored_end}
 use Rattle.insertion.proofs.pairs.store.Goals as goal
 
 pub loop-i-preserved : goal.loop-i-preserved

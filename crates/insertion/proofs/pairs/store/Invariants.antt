@@ -1,6 +1,5 @@
-use Rattle.std.proofs.Common.{rules, ◌≤◌, ◌-◌, ◌+◌, ◌≡◌, refl, arith, length}
+use Rattle.std.proofs.Common.{◌≤◌, ◌-◌, ◌+◌, ◌≡◌, length}
 use Rattle.standard.specs.Pairs.{pairs_in, stored}
-use Rattle.insertion.proofs.PairsLaws.{stored_start, stored_turn, stored_end}
 use Rattle.insertion.proofs.pairs.store.Given as goal
 
 abbrev pub invariant-loop-i : goal.invariant-loop-i

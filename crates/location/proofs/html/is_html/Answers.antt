@@ -1,5 +1,4 @@
 use Rattle.location.proofs.Laws as laws
-use Rattle.std.proofs.Common.{rules}
 use Rattle.location.proofs.html.is_html.Goals as goal
 
 pub returns-then-get-ne-ELEMENT : goal.returns-then-get-ne-ELEMENT

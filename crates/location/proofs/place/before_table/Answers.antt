@@ -1,4 +1,4 @@
-use Rattle.std.proofs.Common.{◌∙◌, rules}
+use Rattle.std.proofs.Common.{◌∙◌}
 use Rattle.location.proofs.Laws as laws
 use Rattle.location.proofs.place.before_table.Goals as goal
 

@@ -1,5 +1,5 @@
-use Rattle.std.proofs.Common.{rules, ◌≤◌, ◌≡◌, refl, sym, ◌∙◌, arith}
-use Rattle.places.specs.Places.{down, never}
+use Rattle.std.proofs.Common.{refl, sym, ◌∙◌, arith}
+use Rattle.places.specs.Places.{never}
 use Rattle.places.proofs.Laws.{down_none, down_hit, down_on, last_with_of}
 use Rattle.standard.specs.Place.{is_foster_stop}
 use Rattle.location.proofs.place.foster_stop.Goals as goal

@@ -1,6 +1,5 @@
-use Rattle.std.proofs.Common.{rules, ◌≤◌, ◌≡◌, refl, sym, ◌∙◌, arith}
+use Rattle.std.proofs.Common.{◌≤◌, ◌≡◌}
 use Rattle.places.specs.Places.{down, never}
-use Rattle.places.proofs.Laws.{down_none, down_hit, down_on, last_with_of}
 use Rattle.standard.specs.Place.{is_foster_stop}
 use Rattle.location.proofs.place.foster_stop.Given as goal
 

@@ -1,5 +1,4 @@
 use Rattle.location.proofs.Laws as laws
-use Rattle.std.proofs.Common.{rules}
 use Rattle.location.proofs.place.is_foster_stop.Goals as goal
 
 pub returns-then-is_html : goal.returns-then-is_html

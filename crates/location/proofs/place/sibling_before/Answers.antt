@@ -1,5 +1,4 @@
 use Rattle.location.proofs.Laws as laws
-use Rattle.std.proofs.Common.{rules}
 use Rattle.location.proofs.place.sibling_before.Goals as goal
 
 pub returns-in-End : goal.returns-in-End

@@ -1,4 +1,4 @@
-use Rattle.std.proofs.Common.{ℕ, ◌-◌, ap, get_or, ◌∙◌, sym, arith, rules}
+use Rattle.std.proofs.Common.{ℕ, ◌-◌, ap, get_or, ◌∙◌, sym, arith}
 use Rattle.places.proofs.Laws.{at_of}
 use Rattle.location.proofs.Laws as laws
 use Rattle.location.proofs.place.table_place.Goals as goal

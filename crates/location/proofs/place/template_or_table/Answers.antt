@@ -1,4 +1,4 @@
-use Rattle.std.proofs.Common.{◌∙◌, sym, arith, rules}
+use Rattle.std.proofs.Common.{◌∙◌, sym, arith}
 use Rattle.places.proofs.Laws.{at_of}
 use Rattle.location.proofs.Laws as laws
 use Rattle.location.proofs.place.template_or_table.Goals as goal

@@ -1,5 +1,4 @@
 use Rattle.location.proofs.Laws as laws
-use Rattle.std.proofs.Common.{rules}
 use Rattle.location.proofs.place.text_before.Goals as goal
 
 pub returns-then-b-eq-NONE : goal.returns-then-b-eq-NONE

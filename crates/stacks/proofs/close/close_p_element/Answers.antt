@@ -1,6 +1,6 @@
 use Rattle.stacks.proofs.StackLaws as laws
 use Rattle.stacks.specs.Walk.{names_of, wanted_in}
-use Rattle.std.proofs.Common.{arith, rules}
+use Rattle.std.proofs.Common.{arith}
 use Rattle.stacks.proofs.close.close_p_element.Goals as goal
 
 pub cut_at-requires : goal.cut_at-requires

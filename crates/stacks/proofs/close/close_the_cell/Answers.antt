@@ -1,6 +1,6 @@
 use Rattle.stacks.proofs.StackLaws as laws
 use Rattle.stacks.specs.Walk.{names_of, wanted_in}
-use Rattle.std.proofs.Common.{arith, rules}
+use Rattle.std.proofs.Common.{arith}
 use Rattle.state.specs.Fields.{set_depth}
 use Rattle.stacks.proofs.close.close_the_cell.Goals as goal
 

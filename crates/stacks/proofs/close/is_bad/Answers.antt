@@ -1,4 +1,4 @@
-use Rattle.std.proofs.Common.{ap, not, rules}
+use Rattle.std.proofs.Common.{ap, not}
 use Rattle.stacks.proofs.StackLaws as laws
 use Rattle.stacks.proofs.close.is_bad.Goals as goal
 

@@ -1,5 +1,4 @@
 use Rattle.stacks.proofs.StackLaws as laws
-use Rattle.std.proofs.Common.{rules}
 use Rattle.stacks.proofs.implied.generate_implied_end_tags.Goals as goal
 
 pub returns-then-is_bad : goal.returns-then-is_bad

@@ -1,5 +1,4 @@
 use Rattle.stacks.proofs.StackLaws as laws
-use Rattle.std.proofs.Common.{rules}
 use Rattle.stacks.proofs.implied.is_bad.Goals as goal
 
 pub returns-then-kind-gt1 : goal.returns-then-kind-gt1

@@ -1,9 +1,5 @@
-use Rattle.std.proofs.Common.{rules, ◌≤◌, ◌≡◌, refl, sym, ◌∙◌, arith, length}
+use Rattle.std.proofs.Common.{rules, sym, ◌∙◌, arith}
 use Rattle.stacks.proofs.StackLaws as laws
-use Rattle.std.proofs.lemmas.Bool.{not-true, not-false}
-use Rattle.places.specs.Places.{places_of}
-use Rattle.standard.specs.Stack.{is_implied, while_top}
-use Rattle.stacks.specs.Walk.{names_of}
 use Rattle.stacks.proofs.implied.pop_implied.Goals as goal
 
 pub returns : goal.returns

@@ -1,6 +1,4 @@
-use Rattle.std.proofs.Common.{rules, ◌≤◌, ◌≡◌, refl, sym, ◌∙◌, arith, length}
-use Rattle.stacks.proofs.StackLaws as laws
-use Rattle.std.proofs.lemmas.Bool.{not-true, not-false}
+use Rattle.std.proofs.Common.{◌≤◌, ◌≡◌, length}
 use Rattle.places.specs.Places.{places_of}
 use Rattle.standard.specs.Stack.{is_implied, while_top}
 use Rattle.stacks.specs.Walk.{names_of}

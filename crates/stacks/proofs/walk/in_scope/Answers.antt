@@ -1,8 +1,5 @@
-use Rattle.std.proofs.Common.{rules, ◌≤◌, ◌≡◌, refl, arith}
+use Rattle.std.proofs.Common.{arith}
 use Rattle.stacks.proofs.StackLaws as laws
-use Rattle.places.specs.Places.{down}
-use Rattle.standard.specs.Stack.{is_of}
-use Rattle.stacks.specs.Walk.{names_of, wanted_in}
 use Rattle.stacks.proofs.walk.in_scope.Goals as goal
 
 pub returns-then-is_wanted : goal.returns-then-is_wanted

@@ -1,5 +1,4 @@
-use Rattle.std.proofs.Common.{rules, ◌≤◌, ◌≡◌, refl, arith}
-use Rattle.stacks.proofs.StackLaws as laws
+use Rattle.std.proofs.Common.{◌≤◌, ◌≡◌}
 use Rattle.places.specs.Places.{down}
 use Rattle.standard.specs.Stack.{is_of}
 use Rattle.stacks.specs.Walk.{names_of, wanted_in}

@@ -1,5 +1,4 @@
 use Rattle.stacks.proofs.StackLaws as laws
-use Rattle.std.proofs.Common.{rules}
 use Rattle.stacks.proofs.walk.is_cell.Goals as goal
 
 pub returns-then-is_html : goal.returns-then-is_html

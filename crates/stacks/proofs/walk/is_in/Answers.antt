@@ -1,7 +1,6 @@
 use Rattle.stacks.proofs.StackLaws as laws
 use Rattle.stacks.specs.declared.walk.Category.TheVariants as category
 use Rattle.stacks.specs.Walk.{names_of}
-use Rattle.std.proofs.Common.{rules}
 use Rattle.stacks.proofs.walk.is_in.Goals as goal
 
 pub returns-in-Default : goal.returns-in-Default

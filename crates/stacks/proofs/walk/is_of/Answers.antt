@@ -1,5 +1,4 @@
 use Rattle.stacks.proofs.StackLaws as laws
-use Rattle.std.proofs.Common.{rules}
 use Rattle.stacks.proofs.walk.is_of.Goals as goal
 
 pub returns-then-get-ne-ELEMENT : goal.returns-then-get-ne-ELEMENT

@@ -1,5 +1,4 @@
 use Rattle.stacks.proofs.StackLaws as laws
-use Rattle.std.proofs.Common.{rules}
 use Rattle.stacks.proofs.walk.is_wanted.Goals as goal
 
 pub returns-in-Node : goal.returns-in-Node
