@@ -1,4 +1,4 @@
-use Rattle.std.proofs.Common.{rules, ◌≤◌, ◌-◌, ◌≡◌, length}
+use Rattle.std.proofs.Common.{◌≤◌, ◌-◌, ◌≡◌, length}
 use Rattle.saved.proofs.load.slots.Given as goal
 
 abbrev pub invariant-loop-k : goal.invariant-loop-k
