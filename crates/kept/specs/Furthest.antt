@@ -7,7 +7,7 @@ use Rattle.std.proofs.Math.Decide.{ℕ_discrete, dec_lt}
 use Rattle.std.proofs.lemmas.Bool.{eqb-false}
 use Rattle.names.specs.Space as space
 use Rattle.names.specs.Tag as tag
-use Rattle.names.specs.Sets.{is_in, member, formatting, special, Formatting, Special, DefaultScope}
+use Rattle.names.specs.Sets.{is_in, member, special, Formatting, Special, DefaultScope}
 use Rattle.names.proofs.Members.{formatting_not_special, formatting_plain}
 use Rattle.theory.specs.Fn.{at}
 use Rattle.lent.specs.Mem.{NODES, slots, field, KIND, SPACE, NAME, ELEMENT}

@@ -5,7 +5,6 @@ use Rattle.std.specs.Prelude.{◌≡◌, eqb, ltb}
 use Rattle.std.proofs.lemmas.Bool.{eqb-false}
 use Rattle.lent.specs.Mem.{NODES, PIECES, field, KIND, TEXT}
 use Rattle.lent.specs.Room.{free_nodes, free_pieces}
-use Rattle.makers.specs.Make.{comment, text}
 use Rattle.makers.proofs.Made.{comment_made, comment_fields, text_made, text_fields}
 use Rattle.state.specs.Full.{Full}
 use Rattle.sound.specs.State.{SoundFull}

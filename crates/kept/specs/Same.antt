@@ -2,7 +2,7 @@
 -- formatting list read few fields, and hold of the new bytes where these fields of the nodes 1 to c are as they were.
 -- `changed` puts a sound state together from that and what is new.
 -- Assumes nothing.
-use Rattle.std.specs.Prelude.{ℕ, zero, ◌+◌, ◌≤◌, ◌<◌, ◌≡◌, refl, ◌≢◌, ◌⊎◌, List, take}
+use Rattle.std.specs.Prelude.{ℕ, ◌+◌, ◌≤◌, ◌<◌, ◌≡◌, refl, ◌≢◌, ◌⊎◌, List, take}
 use Rattle.std.proofs.Common.{sym, ◌∙◌, inl, inr, arith, length-take, get_or-take}
 use Rattle.std.proofs.Math.Decide.{ℕ_discrete, dec_lt}
 use Rattle.theory.specs.Fn.{at}

@@ -1,4 +1,4 @@
-use Rattle.std.proofs.Common.{ap, not, arith, rules}
+use Rattle.std.proofs.Common.{ap, not, arith}
 use Rattle.adoption.proofs.Laws as laws
 use Rattle.rounds.proofs.FirmLaws as firm
 use Rattle.adoption.proofs.adoption_agency.Goals as goal

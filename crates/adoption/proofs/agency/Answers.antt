@@ -1,6 +1,6 @@
 use Rattle.adoption.proofs.Laws as laws
 use Rattle.rounds.proofs.FirmLaws as firm
-use Rattle.std.proofs.Common.{arith, rules}
+use Rattle.std.proofs.Common.{arith}
 use Rattle.adoption.proofs.agency.Goals as goal
 
 pub offset_bounds-h-i : goal.offset_bounds-h-i

@@ -1,7 +1,7 @@
 use Rattle.adoption.proofs.Laws as laws
 use Rattle.rounds.proofs.TurnLaws.{round_of}
 use Rattle.rounds.proofs.FirmLaws as firm
-use Rattle.std.proofs.Common.{rules, ◌∙◌, [], arith}
+use Rattle.std.proofs.Common.{◌∙◌, [], arith}
 use Rattle.state.specs.declared.Context.TheVariants.{None}
 use Rattle.adoption.proofs.all_rounds.Goals as goal
 

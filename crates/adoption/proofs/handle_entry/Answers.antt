@@ -1,6 +1,6 @@
 use Rattle.adoption.proofs.Laws as laws
 use Rattle.rounds.proofs.FirmLaws as firm
-use Rattle.std.proofs.Common.{[], arith, rules}
+use Rattle.std.proofs.Common.{[], arith}
 use Rattle.state.specs.declared.Context.TheVariants.{None}
 use Rattle.adoption.proofs.handle_entry.Goals as goal
 

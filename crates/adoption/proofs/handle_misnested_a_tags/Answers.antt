@@ -1,7 +1,6 @@
 use Rattle.adoption.proofs.Laws as laws
 use Rattle.rounds.proofs.SearchLaws as search-laws
 use Rattle.rounds.proofs.FirmLaws as firm
-use Rattle.std.proofs.Common.{rules}
 use Rattle.adoption.proofs.handle_misnested_a_tags.Goals as goal
 
 pub entry-requires : goal.entry-requires

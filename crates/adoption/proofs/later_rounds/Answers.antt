@@ -1,13 +1,8 @@
 use Rattle.adoption.proofs.Laws as laws
 use Rattle.rounds.proofs.TurnLaws.{round_of}
 use Rattle.rounds.proofs.FirmLaws as firm
-use Rattle.std.proofs.Common.{rules, ℕ, ◌≡◌, refl, sym, ◌∙◌, List, [], arith, length}
-use Rattle.places.specs.Places.{places_of}
-use Rattle.state.specs.declared.Context.{Context}
+use Rattle.std.proofs.Common.{rules, sym, ◌∙◌, [], arith}
 use Rattle.state.specs.declared.Context.TheVariants.{None}
-use Rattle.state.specs.Full.{full}
-use Rattle.adopted.specs.Firm.{Firm}
-use Rattle.rounds.specs.Turns.{turn_of, further}
 use Rattle.adoption.proofs.later_rounds.Goals as goal
 
 pub loop-left-preserved-then-again : goal.loop-left-preserved-then-again

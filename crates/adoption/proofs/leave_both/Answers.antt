@@ -1,5 +1,4 @@
 use Rattle.adoption.proofs.Laws as laws
-use Rattle.std.proofs.Common.{rules}
 use Rattle.adoption.proofs.leave_both.Goals as goal
 
 pub returns : goal.returns

@@ -1,5 +1,4 @@
 use Rattle.begin.proofs.Laws as laws
-use Rattle.std.proofs.Common.{rules}
 use Rattle.begin.proofs.answer.Goals as goal
 
 pub returns-then-bad_context : goal.returns-then-bad_context

@@ -1,5 +1,4 @@
 use Rattle.begin.proofs.Laws as laws
-use Rattle.std.proofs.Common.{rules}
 use Rattle.begin.proofs.bad_context.Goals as goal
 
 pub returns-in-None : goal.returns-in-None

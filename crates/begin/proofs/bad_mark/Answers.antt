@@ -1,5 +1,4 @@
 use Rattle.begin.proofs.Laws as laws
-use Rattle.std.proofs.Common.{rules}
 use Rattle.begin.proofs.bad_mark.Goals as goal
 
 pub returns-then-mark-eq0 : goal.returns-then-mark-eq0

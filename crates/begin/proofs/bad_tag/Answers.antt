@@ -1,6 +1,4 @@
-use Rattle.std.proofs.lemmas.Bool.{not-true, not-false}
 use Rattle.begin.proofs.Laws as laws
-use Rattle.std.proofs.Common.{rules}
 use Rattle.begin.proofs.bad_tag.Goals as goal
 
 pub returns-then-ns-gt-SVG : goal.returns-then-ns-gt-SVG

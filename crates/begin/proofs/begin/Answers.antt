@@ -1,5 +1,4 @@
 use Rattle.begin.proofs.Laws as laws
-use Rattle.std.proofs.Common.{rules}
 use Rattle.begin.proofs.begin.Goals as goal
 
 pub returns-then-k-ne0 : goal.returns-then-k-ne0

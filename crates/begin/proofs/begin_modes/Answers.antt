@@ -1,4 +1,4 @@
-use Rattle.std.proofs.Common.{◌∙◌, rules}
+use Rattle.std.proofs.Common.{◌∙◌}
 use Rattle.begin.proofs.Laws as laws
 use Rattle.begin.proofs.begin_modes.Goals as goal
 

@@ -1,5 +1,4 @@
 use Rattle.standard.specs.Begin.{begin_nodes}
-use Rattle.std.proofs.Common.{rules}
 use Rattle.begin.proofs.begin_nodes.Goals as goal
 
 pub returns : goal.returns

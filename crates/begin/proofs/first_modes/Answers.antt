@@ -1,5 +1,4 @@
 use Rattle.begin.proofs.Laws as laws
-use Rattle.std.proofs.Common.{rules}
 use Rattle.begin.proofs.first_modes.Goals as goal
 
 pub returns-then-is_template_context : goal.returns-then-is_template_context

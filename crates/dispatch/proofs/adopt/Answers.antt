@@ -1,5 +1,4 @@
 use Rattle.dispatch.proofs.ReadyLaws as ready
-use Rattle.std.proofs.Common.{rules}
 use Rattle.dispatch.proofs.adopt.Goals as goal
 
 pub adoption_agency-d-requires-clause-firm : goal.adoption_agency-d-requires-clause-firm

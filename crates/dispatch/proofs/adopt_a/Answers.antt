@@ -1,5 +1,4 @@
 use Rattle.dispatch.proofs.ReadyLaws as ready
-use Rattle.std.proofs.Common.{rules}
 use Rattle.dispatch.proofs.adopt_a.Goals as goal
 
 pub handle_misnested_a_tags-d-requires-clause-firm : goal.handle_misnested_a_tags-d-requires-clause-firm

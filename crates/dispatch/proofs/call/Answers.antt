@@ -1,5 +1,4 @@
 use Rattle.dispatch.proofs.Numbers as number
-use Rattle.std.proofs.Common.{rules}
 use Rattle.dispatch.proofs.call.Goals as goal
 
 pub returns-then-r-lt14 : goal.returns-then-r-lt14

@@ -1,5 +1,4 @@
 use Rattle.dispatch.proofs.Numbers as number
-use Rattle.std.proofs.Common.{rules}
 use Rattle.dispatch.proofs.low.Goals as goal
 
 pub returns-in-1 : goal.returns-in-1

@@ -1,5 +1,4 @@
 use Rattle.dispatch.proofs.Numbers as number
-use Rattle.std.proofs.Common.{rules}
 use Rattle.dispatch.proofs.middle.Goals as goal
 
 pub returns-in-8 : goal.returns-in-8

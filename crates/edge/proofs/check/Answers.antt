@@ -1,5 +1,4 @@
 use Rattle.edge.proofs.Laws.{check_short, check_full}
-use Rattle.std.proofs.Common.{rules}
 use Rattle.edge.proofs.check.Goals as goal
 
 pub returns-then-h-ne-PLACES : goal.returns-then-h-ne-PLACES

@@ -1,5 +1,4 @@
 use Rattle.edge.proofs.Laws.{says_edge}
-use Rattle.std.proofs.Common.{rules}
 use Rattle.edge.proofs.is_sound.Goals as goal
 
 pub returns : goal.returns

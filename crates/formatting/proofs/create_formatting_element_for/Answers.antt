@@ -1,5 +1,4 @@
 use Rattle.formatting.proofs.Laws as laws
-use Rattle.std.proofs.Common.{sym, ◌∙◌, rules}
 use Rattle.state.specs.Full.{full}
 use Rattle.formatting.proofs.create_formatting_element_for.Goals as goal
 

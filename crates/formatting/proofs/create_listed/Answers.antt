@@ -1,6 +1,6 @@
 use Rattle.formatting.proofs.Laws as laws
 use Rattle.entries.proofs.SurplusLaws.{surplus_lt}
-use Rattle.std.proofs.Common.{refl, [], rules}
+use Rattle.std.proofs.Common.{refl, []}
 use Rattle.state.specs.declared.Context.TheVariants.{None}
 use Rattle.formatting.proofs.create_listed.Goals as goal
 

@@ -1,5 +1,4 @@
 use Rattle.formatting.proofs.Laws as laws
-use Rattle.std.proofs.Common.{refl, ◌∙◌, rules}
 use Rattle.standard.specs.Formatting.{created_for}
 use Rattle.formatting.proofs.create_room.Goals as goal
 

@@ -1,5 +1,5 @@
 use Rattle.formatting.proofs.Laws as laws
-use Rattle.std.proofs.Common.{arith, ◌∙◌, rules}
+use Rattle.std.proofs.Common.{arith}
 use Rattle.formatting.proofs.enlist.Goals as goal
 
 pub push-requires-in-Nothing : goal.push-requires-in-Nothing

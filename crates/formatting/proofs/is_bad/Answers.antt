@@ -1,4 +1,4 @@
-use Rattle.std.proofs.Common.{ap, not, rules}
+use Rattle.std.proofs.Common.{ap, not}
 use Rattle.formatting.proofs.Laws as laws
 use Rattle.formatting.proofs.is_bad.Goals as goal
 

@@ -1,5 +1,4 @@
 use Rattle.formatting.proofs.Laws as laws
-use Rattle.std.proofs.Common.{arith, rules}
 use Rattle.formatting.proofs.is_full.Goals as goal
 
 pub returns-in-At : goal.returns-in-At

@@ -1,5 +1,5 @@
 use Rattle.reconstruct.proofs.Laws as laws
-use Rattle.std.proofs.Common.{arith, ◌∙◌, rules}
+use Rattle.std.proofs.Common.{arith}
 use Rattle.reconstruct.proofs.copy_in.Goals as goal
 
 pub returns : goal.returns

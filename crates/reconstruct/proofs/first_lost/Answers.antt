@@ -1,7 +1,5 @@
 use Rattle.reconstruct.proofs.Laws as laws
-use Rattle.std.proofs.Common.{rules, ◌≤◌, ◌≡◌, refl, arith}
-use Rattle.places.specs.Places.{places_of, down, never}
-use Rattle.standard.specs.Formatting.{is_marker_or_open}
+use Rattle.std.proofs.Common.{arith}
 use Rattle.reconstruct.proofs.first_lost.Goals as goal
 
 pub returns-then-is_marker_or_open : goal.returns-then-is_marker_or_open

@@ -1,5 +1,4 @@
-use Rattle.reconstruct.proofs.Laws as laws
-use Rattle.std.proofs.Common.{rules, ◌≤◌, ◌≡◌, refl, arith}
+use Rattle.std.proofs.Common.{◌≤◌, ◌≡◌}
 use Rattle.places.specs.Places.{places_of, down, never}
 use Rattle.standard.specs.Formatting.{is_marker_or_open}
 use Rattle.reconstruct.proofs.first_lost.Given as goal

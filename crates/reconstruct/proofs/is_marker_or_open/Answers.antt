@@ -1,5 +1,4 @@
 use Rattle.reconstruct.proofs.Laws as laws
-use Rattle.std.proofs.Common.{rules}
 use Rattle.reconstruct.proofs.is_marker_or_open.Goals as goal
 
 pub returns-then-n-eq-MARKER : goal.returns-then-n-eq-MARKER

@@ -1,8 +1,5 @@
 use Rattle.reconstruct.proofs.Laws as laws
-use Rattle.std.proofs.Common.{rules, ℕ, ◌+◌, ◌-◌, ◌<◌, ◌≤◌, ◌≡◌, sym, ◌∙◌, List, arith, length}
-use Rattle.state.specs.declared.Context.{Context}
-use Rattle.state.specs.Full.{full}
-use Rattle.standard.specs.Formatting.{anew}
+use Rattle.std.proofs.Common.{sym, ◌∙◌, arith}
 use Rattle.reconstruct.proofs.make_all.Goals as goal
 
 pub loop-i-preserved : goal.loop-i-preserved

@@ -1,5 +1,4 @@
-use Rattle.reconstruct.proofs.Laws as laws
-use Rattle.std.proofs.Common.{rules, ℕ, ◌+◌, ◌-◌, ◌<◌, ◌≤◌, ◌≡◌, sym, ◌∙◌, List, arith, length}
+use Rattle.std.proofs.Common.{ℕ, ◌+◌, ◌-◌, ◌<◌, ◌≤◌, ◌≡◌, List, length}
 use Rattle.state.specs.declared.Context.{Context}
 use Rattle.state.specs.Full.{full}
 use Rattle.standard.specs.Formatting.{anew}

@@ -1,5 +1,5 @@
 use Rattle.reconstruct.proofs.Laws as laws
-use Rattle.std.proofs.Common.{rules, ◌+◌}
+use Rattle.std.proofs.Common.{◌+◌}
 use Rattle.reconstruct.proofs.make_anew.Goals as goal
 
 pub returns-clause-counts : goal.returns-clause-counts

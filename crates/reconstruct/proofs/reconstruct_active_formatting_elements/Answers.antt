@@ -1,5 +1,4 @@
 use Rattle.reconstruct.proofs.Laws as laws
-use Rattle.std.proofs.Common.{arith, refl, rules}
 use Rattle.reconstruct.proofs.reconstruct_active_formatting_elements.Goals as goal
 
 pub returns-then-free_nodes-lost : goal.returns-then-free_nodes-lost

@@ -1,5 +1,4 @@
 use Rattle.queries.proofs.QueryLaws as laws
-use Rattle.std.proofs.Common.{rules}
 use Rattle.queries.proofs.body_elem.find.Goals as goal
 
 pub returns-then-depth-le1 : goal.returns-then-depth-le1

@@ -1,5 +1,4 @@
 use Rattle.queries.proofs.QueryLaws as laws
-use Rattle.std.proofs.Common.{rules}
 use Rattle.queries.proofs.body_elem.give.Goals as goal
 
 pub returns-in-At : goal.returns-in-At

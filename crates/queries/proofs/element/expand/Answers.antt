@@ -1,5 +1,4 @@
 use Rattle.queries.proofs.ElementLaws as laws
-use Rattle.std.proofs.Common.{rules}
 use Rattle.queries.proofs.element.expand.Goals as goal
 
 pub returns : goal.returns

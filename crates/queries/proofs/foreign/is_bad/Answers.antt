@@ -1,5 +1,4 @@
 use Rattle.queries.proofs.ForeignLaws as laws
-use Rattle.std.proofs.Common.{rules}
 use Rattle.queries.proofs.foreign.is_bad.Goals as goal
 
 pub returns-then-kind-gt-END_OF_FILE : goal.returns-then-kind-gt-END_OF_FILE

@@ -1,4 +1,4 @@
-use Rattle.std.proofs.Common.{ap, not, rules}
+use Rattle.std.proofs.Common.{ap, not}
 use Rattle.queries.proofs.ForeignLaws as laws
 use Rattle.queries.proofs.foreign.is_for_text_point.Goals as goal
 

@@ -1,5 +1,4 @@
 use Rattle.queries.proofs.ForeignLaws as laws
-use Rattle.std.proofs.Common.{rules}
 use Rattle.queries.proofs.foreign.is_html_content.Goals as goal
 
 pub returns-then-e-eq-HTML : goal.returns-then-e-eq-HTML

@@ -1,4 +1,3 @@
-use Rattle.std.proofs.Common.{arith, ◌-◌, rules}
 use Rattle.queries.proofs.ResetLaws as laws
 use Rattle.queries.proofs.reset.current_mode.Goals as goal
 

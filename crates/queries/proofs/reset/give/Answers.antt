@@ -1,5 +1,4 @@
 use Rattle.queries.proofs.ResetLaws as laws
-use Rattle.std.proofs.Common.{rules}
 use Rattle.queries.proofs.reset.give.Goals as goal
 
 pub returns-in-Mode : goal.returns-in-Mode

@@ -1,5 +1,4 @@
 use Rattle.queries.proofs.ResetLaws as laws
-use Rattle.std.proofs.Common.{rules}
 use Rattle.queries.proofs.reset.mode_at.Goals as goal
 
 pub returns-then-e-ne-HTML : goal.returns-then-e-ne-HTML

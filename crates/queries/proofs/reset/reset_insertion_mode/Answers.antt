@@ -1,6 +1,4 @@
-use Rattle.std.proofs.Common.{refl, rules}
-use Rattle.std.proofs.lemmas.Bool.{not-true, not-false}
-use Rattle.edge.proofs.Laws.{checked_no, checked_yes}
+use Rattle.edge.proofs.Laws.{checked_yes}
 use Rattle.queries.proofs.QueryLaws as laws
 use Rattle.queries.proofs.reset.reset_insertion_mode.Goals as goal
 

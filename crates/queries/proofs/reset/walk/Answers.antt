@@ -1,6 +1,4 @@
-use Rattle.std.proofs.Common.{rules, arith, ◌≡◌, refl, ◌≤◌}
-use Rattle.places.specs.Places.{places_of}
-use Rattle.queries.specs.Reset.{walked}
+use Rattle.std.proofs.Common.{rules, arith}
 use Rattle.queries.proofs.ResetLaws as laws
 use Rattle.queries.proofs.reset.walk.Goals as goal
 

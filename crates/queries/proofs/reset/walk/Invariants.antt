@@ -1,7 +1,6 @@
-use Rattle.std.proofs.Common.{rules, arith, ◌≡◌, refl, ◌≤◌}
+use Rattle.std.proofs.Common.{◌≡◌, ◌≤◌}
 use Rattle.places.specs.Places.{places_of}
 use Rattle.queries.specs.Reset.{walked}
-use Rattle.queries.proofs.ResetLaws as laws
 use Rattle.queries.proofs.reset.walk.Given as goal
 
 abbrev pub invariant-loop-k : goal.invariant-loop-k

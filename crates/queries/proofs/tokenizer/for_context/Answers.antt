@@ -1,5 +1,4 @@
 use Rattle.queries.proofs.TokenizerLaws as laws
-use Rattle.std.proofs.Common.{rules}
 use Rattle.queries.proofs.tokenizer.for_context.Goals as goal
 
 pub returns-in-None : goal.returns-in-None

@@ -1,5 +1,5 @@
 use Rattle.queries.specs.declared.tokenizer.Start.TheVariants.{Data, Rcdata, Rawtext, ScriptData, Plaintext}
-use Rattle.std.proofs.Common.{refl, rules}
+use Rattle.std.proofs.Common.{refl}
 use Rattle.queries.specs.Tokenizer.{given}
 use Rattle.queries.proofs.TokenizerLaws as laws
 use Rattle.queries.proofs.tokenizer.give.Goals as goal

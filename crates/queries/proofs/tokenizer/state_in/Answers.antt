@@ -1,5 +1,4 @@
 use Rattle.queries.proofs.TokenizerLaws as laws
-use Rattle.std.proofs.Common.{rules}
 use Rattle.queries.proofs.tokenizer.state_in.Goals as goal
 
 pub returns-then-space-ne-HTML : goal.returns-then-space-ne-HTML

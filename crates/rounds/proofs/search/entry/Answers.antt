@@ -1,8 +1,5 @@
 use Rattle.rounds.proofs.SearchLaws as laws
-use Rattle.std.proofs.Common.{rules, ◌≤◌, ◌≡◌, refl, arith}
-use Rattle.places.specs.Places.{same, down}
-use Rattle.standard.specs.Small.{MARKER}
-use Rattle.standard.specs.Stack.{named}
+use Rattle.std.proofs.Common.{arith}
 use Rattle.rounds.proofs.search.entry.Goals as goal
 
 pub returns-then-is_html : goal.returns-then-is_html

@@ -1,5 +1,4 @@
-use Rattle.rounds.proofs.SearchLaws as laws
-use Rattle.std.proofs.Common.{rules, ◌≤◌, ◌≡◌, refl, arith}
+use Rattle.std.proofs.Common.{◌≤◌, ◌≡◌}
 use Rattle.places.specs.Places.{same, down}
 use Rattle.standard.specs.Small.{MARKER}
 use Rattle.standard.specs.Stack.{named}

@@ -1,6 +1,6 @@
-use Rattle.std.proofs.Common.{rules, ◌+◌, ◌-◌, ◌<◌, ◌≤◌, ◌≡◌, refl, arith, take, drop}
+use Rattle.std.proofs.Common.{refl, arith}
 use Rattle.names.specs.Sets.{Special}
-use Rattle.places.specs.Places.{places_of, first_of, first_with}
+use Rattle.places.specs.Places.{places_of}
 use Rattle.places.proofs.Laws.{first_none}
 use Rattle.places.proofs.First.{first_turn, first_end}
 use Rattle.standard.specs.Stack.{is_of}

@@ -1,10 +1,7 @@
-use Rattle.std.proofs.Common.{rules, ◌+◌, ◌-◌, ◌<◌, ◌≤◌, ◌≡◌, refl, arith, take, drop}
+use Rattle.std.proofs.Common.{◌+◌, ◌-◌, ◌<◌, ◌≤◌, ◌≡◌, take, drop}
 use Rattle.names.specs.Sets.{Special}
-use Rattle.places.specs.Places.{places_of, first_of, first_with}
-use Rattle.places.proofs.Laws.{first_none}
-use Rattle.places.proofs.First.{first_turn, first_end}
+use Rattle.places.specs.Places.{first_of, first_with}
 use Rattle.standard.specs.Stack.{is_of}
-use Rattle.standard.specs.Adoption.{furthest_of}
 use Rattle.rounds.proofs.search.furthest.Given as goal
 
 abbrev pub invariant-loop-k : goal.invariant-loop-k

@@ -1,4 +1,3 @@
-use Rattle.std.proofs.Common.{rules}
 use Rattle.places.proofs.First.{one_at, one_none}
 use Rattle.stacks.specs.Walk.{names_of}
 use Rattle.rounds.proofs.search.special_at.Goals as goal

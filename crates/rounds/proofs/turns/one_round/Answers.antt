@@ -1,7 +1,6 @@
 use Rattle.rounds.proofs.TurnLaws as laws
 use Rattle.rounds.proofs.SearchLaws as search-laws
 use Rattle.rounds.proofs.FirmLaws as firm
-use Rattle.std.proofs.Common.{rules}
 use Rattle.rounds.proofs.turns.one_round.Goals as goal
 
 pub entry-requires : goal.entry-requires

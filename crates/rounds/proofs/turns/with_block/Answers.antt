@@ -2,7 +2,7 @@ use Rattle.rounds.proofs.TurnLaws as laws
 use Rattle.rounds.proofs.SearchLaws as search-laws
 use Rattle.rounds.proofs.FirmLaws as firm
 use Rattle.places.proofs.Laws.{place_lt}
-use Rattle.std.proofs.Common.{arith, rules}
+use Rattle.std.proofs.Common.{arith}
 use Rattle.rounds.proofs.turns.with_block.Goals as goal
 
 pub furthest-requires : goal.furthest-requires

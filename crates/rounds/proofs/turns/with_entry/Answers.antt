@@ -1,7 +1,7 @@
 use Rattle.rounds.proofs.TurnLaws as laws
 use Rattle.rounds.proofs.SearchLaws as search-laws
 use Rattle.rounds.proofs.FirmLaws as firm
-use Rattle.std.proofs.Common.{arith, rules}
+use Rattle.std.proofs.Common.{arith}
 use Rattle.rounds.proofs.turns.with_entry.Goals as goal
 
 pub offset_bounds-list-j : goal.offset_bounds-list-j

@@ -1,7 +1,6 @@
 use Rattle.rounds.proofs.TurnLaws as laws
 use Rattle.rounds.proofs.FirmLaws as firm
 use Rattle.stacks.specs.Walk.{names_of, wanted_in}
-use Rattle.std.proofs.Common.{rules}
 use Rattle.rounds.proofs.turns.with_open.Goals as goal
 
 pub in_scope-requires : goal.in_scope-requires
