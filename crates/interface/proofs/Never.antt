@@ -5,7 +5,6 @@ use Rattle.std.proofs.Common.{refl, ap, ℕ}
 use Rattle.state.specs.Full.{Full}
 use Rattle.sound.specs.State.{SoundFull}
 use Rattle.standard.specs.Step.{step}
-use Rattle.standard.specs.Refusals.{lowest}
 use Rattle.kept.specs.Demands as numbers
 use Rattle.interface.specs.Questions.{answer_of, refusals_of_question}
 use Rattle.interface.specs.Calls.{Call, numbered, question, effect, effect_of, refusals_of_call, Settled}

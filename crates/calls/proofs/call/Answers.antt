@@ -1,5 +1,4 @@
 use Rattle.calls.proofs.EdgeLaws.{call_edge, taken_edge}
-use Rattle.std.proofs.Common.{rules}
 use Rattle.calls.proofs.call.Goals as goal
 
 pub returns-clause-outcome : goal.returns-clause-outcome

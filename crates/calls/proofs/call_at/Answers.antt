@@ -1,6 +1,5 @@
 use Rattle.kept.specs.Step.{sound_ready, sound_modes}
 use Rattle.calls.proofs.EdgeLaws.{single_call, single_unknown, single_bad}
-use Rattle.std.proofs.Common.{rules}
 use Rattle.calls.proofs.call_at.Goals as goal
 
 pub call-requires-clause-ready : goal.call-requires-clause-ready

@@ -1,5 +1,4 @@
 use Rattle.calls.proofs.EdgeLaws.{run_edge}
-use Rattle.std.proofs.Common.{rules}
 use Rattle.calls.proofs.run.Goals as goal
 
 pub returns : goal.returns

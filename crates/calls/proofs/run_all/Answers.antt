@@ -1,10 +1,7 @@
-use Rattle.std.proofs.Common.{rules, ◌≤◌, ◌-◌, ◌≡◌, refl, sym, ◌∙◌, length, arith}
+use Rattle.std.proofs.Common.{sym, ◌∙◌, arith}
 use Rattle.records.proofs.Past.{item_past}
-use Rattle.sound.specs.State.{SoundFull}
 use Rattle.kept.specs.Step.{sound_ready, sound_modes}
-use Rattle.state.specs.declared.Context.{Context}
-use Rattle.state.specs.Full.{full}
-use Rattle.standard.specs.Run.{run_from, run_of}
+use Rattle.standard.specs.Run.{run_of}
 use Rattle.calls.proofs.RunLaws.{run_end, run_unknown, run_bad, run_refused, run_more, after_sound}
 use Rattle.calls.proofs.run_all.Goals as goal
 

@@ -1,11 +1,8 @@
-use Rattle.std.proofs.Common.{rules, ◌≤◌, ◌-◌, ◌≡◌, refl, sym, ◌∙◌, length, arith}
-use Rattle.records.proofs.Past.{item_past}
+use Rattle.std.proofs.Common.{◌≤◌, ◌-◌, ◌≡◌, length}
 use Rattle.sound.specs.State.{SoundFull}
-use Rattle.kept.specs.Step.{sound_ready, sound_modes}
 use Rattle.state.specs.declared.Context.{Context}
 use Rattle.state.specs.Full.{full}
-use Rattle.standard.specs.Run.{run_from, run_of}
-use Rattle.calls.proofs.RunLaws.{run_end, run_unknown, run_bad, run_refused, run_more, after_sound}
+use Rattle.standard.specs.Run.{run_from}
 use Rattle.calls.proofs.run_all.Given as goal
 
 abbrev pub invariant-loop-at : goal.invariant-loop-at
