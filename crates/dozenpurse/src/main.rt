@@ -10,7 +10,6 @@ ghost use Rattle.dozenpurse.specs.Leaflet as def;
 use dump::Cursor;
 use state::{Context, State};
 use std::io;
-use std::io::Read;
 
 // How much of standard input is run.
 const MOST: usize = 16384;
@@ -73,19 +72,6 @@ fn leaflet(
     }
 }
 
-// Reads until the buffer is full or the input ends; how many bytes were read.
-fn read_full<R: Read>(input: &mut R, buffer: &mut [u8]) -> io::Result<usize> {
-    let mut done = 0;
-    while done < buffer.len() {
-        let n = input.read(&mut buffer[done..])?;
-        if n == 0 {
-            break;
-        }
-        done += n;
-    }
-    Ok(done)
-}
-
 fn print(rt: &impl Print, line: &[u8], n: usize) -> io::Result<()> {
     if n <= line.len() {
         return rt.write_all(&line[..n]);
@@ -125,7 +111,7 @@ fn print_done(rt: &impl Print, d: Done, line: &mut [u8]) -> io::Result<()> {
 
 fn main(rt: HostRuntime) -> io::Result<()> {
     let mut buffer = [0u8; 16385];
-    let n = read_full(&mut rt.stdin(), &mut buffer)?;
+    let n = saved::input::read_full(&mut rt.stdin(), &mut buffer)?;
     let mut nodes = [0u8; 65568];
     let mut list = [0u16; 256];
     let mut modes = [0u16; 64];

@@ -2,20 +2,6 @@
 // Tests on any state: standard input is a saved state and a request (docs/LAYOUT.md); what comes of it goes to standard output.
 // The lent memory is not cleared first: no answer depends on what it held.
 use std::io;
-use std::io::Read;
-
-// Reads until the buffer is full or the input ends; how many bytes were read.
-fn read_full<R: Read>(input: &mut R, buffer: &mut [u8]) -> io::Result<usize> {
-    let mut done = 0;
-    while done < buffer.len() {
-        let n = input.read(&mut buffer[done..])?;
-        if n == 0 {
-            break;
-        }
-        done += n;
-    }
-    Ok(done)
-}
 
 fn print(rt: &impl Print, out: &[u8], n: usize) -> io::Result<()> {
     if n <= out.len() {
@@ -26,7 +12,7 @@ fn print(rt: &impl Print, out: &[u8], n: usize) -> io::Result<()> {
 
 fn main(rt: HostRuntime) -> io::Result<()> {
     let mut buffer = [0u8; 262144];
-    let n = read_full(&mut rt.stdin(), &mut buffer)?;
+    let n = saved::input::read_full(&mut rt.stdin(), &mut buffer)?;
     let mut nodes = [170u8; 131104];
     let mut list = [43690u16; 256];
     let mut modes = [43690u16; 64];

@@ -1,4 +1,4 @@
-use Rattle.std.proofs.Common.{rules, eq-eqb, ne_eqb}
+use Rattle.std.proofs.Common.{eq-eqb, ne_eqb}
 use Rattle.dozenpurse.specs.Leaflet.{cut_answer}
 use Rattle.dozenpurse.proofs.cut.Goals as goal
 

@@ -1,4 +1,3 @@
-use Rattle.std.proofs.Common.{sym, length-take-le, rules}
 use Rattle.dozenpurse.proofs.Laws.{input_is, leaflet_is}
 use Rattle.dozenpurse.proofs.leaflet.Goals as goal
 
