@@ -28,6 +28,7 @@ fn renew(nodes: &mut [u8], new: Node, node: Node, last: Node)
 }
 
 // 4.13.7
+#[tactic(auto, using(crate::proofs::WalkLaws::mark_moves, crate::proofs::WalkLaws::mark_stays))]
 fn marked(last: u16, block: u16, new: u16, mark: Bookmark) -> Bookmark
     ensures { result ≡ mark_of last block new mark }
 {
@@ -107,7 +108,9 @@ fn turn(
             }
         }
         Found::At(j) => {
-            if 3 < counter {
+            // 4.13.4
+            let leaves = 3 < counter;
+            if leaves {
                 return Walk {
                     core: leave_both(h, core, list, i, j),
                     last: last,

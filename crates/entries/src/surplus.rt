@@ -84,6 +84,7 @@ fn first_same(
     found
 }
 
+#[tactic(auto, using(crate::proofs::SurplusLaws::surplus_none, crate::proofs::SurplusLaws::surplus_at))]
 pub fn surplus(
     nodes: &[u8],
     pairs: &[u8],

@@ -53,6 +53,7 @@ pub fn clear(core: Core, list: &mut [u16]) -> Done
 }
 
 // 14
+#[tactic(auto, using(crate::proofs::Laws::popped_root, crate::proofs::Laws::popped_done))]
 pub fn pop(h: &mut [u16], core: Core) -> Done
     requires { core.depth ≤ length h.old }
     ensures { (n l m p q : List ℕ) (x : Context) → result_of result.answer (full h.new result.core x n l m p q) ≡ popped (full h.old core x n l m p q) }
