@@ -22,13 +22,14 @@ def run():
 
 def wrong(crate):
     """What is wrong with what the crate's check says that it assumes, or nothing."""
-    log = subprocess.run(['rt', 'check'], cwd=f'crates/{crate}', stdout=subprocess.PIPE, stderr=subprocess.STDOUT, text=True).stdout
-    last = re.search(r'(?m)^logic=proved .*', log)
-    lines = re.findall(r'(?m)^axioms \w+: (.*)$', log)
-    if last is None or not lines:
+    ran = subprocess.run(['rt', 'check'], cwd=f'crates/{crate}', stdout=subprocess.PIPE, stderr=subprocess.STDOUT, text=True)
+    # libraries that were built for it have their lines before its own
+    proved = re.findall(r'(?m)^logic=proved .*', ran.stdout)
+    lines = re.findall(r'(?m)^axioms \w+: (.*)$', ran.stdout)
+    if ran.returncode or not proved or not lines:
         return 'the check does not say that it is proved, and what is reached'
     reached = {name.strip() for line in lines if not line.startswith('none reached') for name in line.split('(')[0].split(',')}
-    counted = sum(int(n) for n in re.findall(r'\baxioms=(\d+)', last[0]))
+    counted = sum(int(n) for n in re.findall(r'\baxioms=(\d+)', proved[-1]))
     if counted != len(reached) or not reached <= (ALLOWED if crate in PROGRAMS else set()):
         return f'assumes {counted}: {sorted(reached)}'
     return None
