@@ -1,12 +1,10 @@
 -- The adoption agency makes at most 32 nodes and gives up none: eight rounds, each of at most three in the inner loop and one after it.
 -- Assumes nothing.
-use Rattle.std.proofs.Common.{ℕ, zero, suc, ◌+◌, ◌-◌, ◌*◌, ◌≤◌, ◌≡◌, refl, Bool, true, false, cond, not, arith, eqb, ltb, ltb-false}
+use Rattle.std.proofs.Common.{ℕ, zero, suc, ◌+◌, ◌-◌, ◌*◌, ◌≤◌, ◌≡◌, refl, Bool, true, false, cond, not, arith, eqb, ltb, ltb-false, None, Option, Some}
 use Rattle.names.specs.Tag as tag
 use Rattle.names.specs.Space as space
 use Rattle.names.specs.Sets.{is_in, Formatting, DefaultScope}
 use Rattle.places.specs.Places.{at, same, place_of}
-use Rattle.places.specs.declared.Found.{Found}
-use Rattle.places.specs.declared.Found.TheVariants.{At, Nothing}
 use Rattle.state.specs.Full.{Full, Result, with_stack, with_list, with_nodes}
 use Rattle.standard.specs.Html.{is_html, current}
 use Rattle.standard.specs.Stack.{in_scope}
@@ -34,10 +32,10 @@ abbrev result_used : Result → ℕ
 result_used r = r.after.nodes.used
 
 -- a turn, which counts c + 1: one node at most, and none past 3
-pub turn_more : (q : Found) (w : Inner) (block i c : ℕ) → More w.full.nodes.used ((3 - c) - (3 - (c + 1))) (turn_at q w block i (c + 1)).full.nodes.used
+pub turn_more : (q : Option ℕ) (w : Inner) (block i c : ℕ) → More w.full.nodes.used ((3 - c) - (3 - (c + 1))) (turn_at q w block i (c + 1)).full.nodes.used
 unfolding turn_at left_stack left_both renewed_at renewed_in with_stack with_list with_nodes
-turn_more Nothing w block i c = more_none _ _
-turn_more (At j) w block i c =
+turn_more None w block i c = more_none _ _
+turn_more (Some j) w block i c =
     more_test inner_used w.full.nodes.used ((3 - c) - (3 - (c + 1))) (ltb 3 (c + 1))
     (λ e. more_none _ _)
     (λ e. record { least = omega arith; most = omega (arith, ltb-false 3 (c + 1) e) })
@@ -63,25 +61,25 @@ adopted_more f fe s j b =
 
 -- ---- a round
 
-block_more : (q : Found) (f : Full) (fe s j : ℕ) → More f.nodes.used 4 (block_at q f fe s j).after.nodes.used
+block_more : (q : Option ℕ) (f : Full) (fe s j : ℕ) → More f.nodes.used 4 (block_at q f fe s j).after.nodes.used
 unfolding block_at with_stack with_list
-block_more Nothing f fe s j = more_none _ _
-block_more (At b) f fe s j = adopted_more f fe s j b
+block_more None f fe s j = more_none _ _
+block_more (Some b) f fe s j = adopted_more f fe s j b
 
-scope_more : (q : Found) (f : Full) (fe s j : ℕ) → More f.nodes.used 4 (scope_at q f fe s j).after.nodes.used
+scope_more : (q : Option ℕ) (f : Full) (fe s j : ℕ) → More f.nodes.used 4 (scope_at q f fe s j).after.nodes.used
 unfolding scope_at blocked
-scope_more Nothing f fe s j = more_none _ _
-scope_more (At k) f fe s j = block_more (furthest_of f.nodes.mem f.stack s) f fe s j
+scope_more None f fe s j = more_none _ _
+scope_more (Some k) f fe s j = block_more (furthest_of f.nodes.mem f.stack s) f fe s j
 
-open_more : (q : Found) (f : Full) (fe j : ℕ) → More f.nodes.used 4 (open_at q f fe j).after.nodes.used
+open_more : (q : Option ℕ) (f : Full) (fe j : ℕ) → More f.nodes.used 4 (open_at q f fe j).after.nodes.used
 unfolding open_at scoped with_list
-open_more Nothing f fe j = more_none _ _
-open_more (At s) f fe j = scope_more (in_scope DefaultScope (same fe) f.nodes.mem f.stack) f fe s j
+open_more None f fe j = more_none _ _
+open_more (Some s) f fe j = scope_more (in_scope DefaultScope (same fe) f.nodes.mem f.stack) f fe s j
 
-entry_more : (q : Found) (f : Full) (name : ℕ) → More f.nodes.used 4 (entry_at q f name).after.nodes.used
+entry_more : (q : Option ℕ) (f : Full) (name : ℕ) → More f.nodes.used 4 (entry_at q f name).after.nodes.used
 unfolding entry_at opened with_stack
-entry_more Nothing f name = more_none _ _
-entry_more (At j) f name = open_more (place_of f.stack (at f.list j)) f (at f.list j) j
+entry_more None f name = more_none _ _
+entry_more (Some j) f name = open_more (place_of f.stack (at f.list j)) f (at f.list j) j
 
 pub rounded_more : (f : Full) (name : ℕ) → More f.nodes.used 4 (rounded f name).after.nodes.used
 unfolding rounded
@@ -101,10 +99,10 @@ rounds_more (suc k) f name = by (rounds_more k (rounded f name).after name)
         (λ e. more_add _ _ _ _ _ _ (rounded_more f name) h (omega arith))
         (λ e. more_add _ _ _ _ _ _ (rounded_more f name) (more_none _ 0) (omega arith))
 
-current_more : (q : Found) (f : Full) (name : ℕ) → More f.nodes.used 32 (current_at q f name).nodes.used
+current_more : (q : Option ℕ) (f : Full) (name : ℕ) → More f.nodes.used 32 (current_at q f name).nodes.used
 unfolding current_at with_stack
-current_more Nothing f name = more_none _ _
-current_more (At j) f name = rounds_more 8 f name
+current_more None f name = more_none _ _
+current_more (Some j) f name = rounds_more 8 f name
 
 pub agency_more : (f : Full) (name : ℕ) → More f.nodes.used 32 (agency f name).nodes.used
 unfolding agency
@@ -119,10 +117,10 @@ adoption_more f name =
     more_test result_used _ _ (not (is_in Formatting space.html name)) (λ e. more_none _ _)
     (λ e. more_test result_used _ _ (few_nodes f) (λ d. more_none _ _) (λ d. agency_more f name))
 
-misnested_at_lem : (q : Found) (f : Full) → More f.nodes.used 32 (misnested_at q f).after.nodes.used
+misnested_at_lem : (q : Option ℕ) (f : Full) → More f.nodes.used 32 (misnested_at q f).after.nodes.used
 unfolding misnested_at leaves with_stack with_list
-misnested_at_lem Nothing f = more_none _ _
-misnested_at_lem (At j) f = more_test result_used _ _ (few_nodes f) (λ d. more_none _ _) (λ d. agency_more f tag.a)
+misnested_at_lem None f = more_none _ _
+misnested_at_lem (Some j) f = more_test result_used _ _ (few_nodes f) (λ d. more_none _ _) (λ d. agency_more f tag.a)
 
 misnested_more : (f : Full) → More f.nodes.used 32 (misnested f).after.nodes.used
 unfolding misnested

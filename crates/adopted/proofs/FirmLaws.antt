@@ -1,10 +1,8 @@
 -- What the adoption agency relies on (`specs/Firm.antt`) holds after a round too, for one round less.
 -- Assumes nothing.
-use Rattle.std.proofs.Common.{ℕ, zero, suc, ◌+◌, ◌*◌, ◌≤◌, ◌<◌, ◌≡◌, refl, ◌⊎◌, inl, inr, Bool, true, false, cond, List, ◌++◌, arith, eqb, ltb, length, take, drop, length-append, length-take, length-drop, length-set}
+use Rattle.std.proofs.Common.{ℕ, zero, suc, ◌+◌, ◌*◌, ◌≤◌, ◌<◌, ◌≡◌, refl, ◌⊎◌, inl, inr, Bool, true, false, cond, List, ◌++◌, arith, eqb, ltb, length, take, drop, length-append, length-take, length-drop, length-set, None, Option, Some}
 use Rattle.names.specs.Sets.{DefaultScope, Special}
 use Rattle.places.specs.Places.{Places, at, same, without, swapped, place_of, exchanged}
-use Rattle.places.specs.declared.Found.{Found}
-use Rattle.places.specs.declared.Found.TheVariants.{At, Nothing}
 use Rattle.places.proofs.First.{first_from}
 use Rattle.state.specs.Full.{Full, with_stack, with_list, with_nodes}
 use Rattle.standard.specs.Small.{MARKER}
@@ -61,14 +59,14 @@ deep_test k false g h = h
 deep_without : (xs : List ℕ) (i : ℕ) → i < length xs → i ≤ length (take i xs ++ drop (i + 1) xs)
 deep_without xs i h = simp (length-append, length-take, length-drop) (omega arith)
 
-pub turn_deep : (q : Found) (w : Inner) (block i c : ℕ) → place_of w.full.list (at w.full.stack i) ≡ q → Deep w (suc i) → Deep (turn_at q w block i c) i
+pub turn_deep : (q : Option ℕ) (w : Inner) (block i c : ℕ) → place_of w.full.list (at w.full.stack i) ≡ q → Deep w (suc i) → Deep (turn_at q w block i c) i
 unfolding turn_at left_stack left_both renewed_at renewed_in with_stack with_list with_nodes without swapped
-turn_deep Nothing w block i c e d =
+turn_deep None w block i c e d =
     record {
       held = record { stack = holds_without (Used w.full.nodes.used) w.full.stack i d.deep d.held.stack; list = d.held.list };
       deep = deep_without w.full.stack.held i d.deep;
     }
-turn_deep (At j) w block i c e d =
+turn_deep (Some j) w block i c e d =
     deep_test i (ltb 3 c)
     (record {
       held =
@@ -124,31 +122,31 @@ adopted_held f fe s j b h x =
         }
 
 -- 4.7: what is found is in the stack
-pub furthest_lt : (m : List ℕ) (stack : Places) (s b : ℕ) → furthest_of m stack s ≡ At b → b < length stack.held
+pub furthest_lt : (m : List ℕ) (stack : Places) (s b : ℕ) → furthest_of m stack s ≡ Some b → b < length stack.held
 unfolding furthest_of
 furthest_lt m stack s b e = (first_from (is_of Special m) stack.held (s + 1) b e).below
 
-block_held : (q : Found) (f : Full) (fe s j : ℕ) → furthest_of f.nodes.mem f.stack s ≡ q → s < length f.stack.held → j < length f.list.held
+block_held : (q : Option ℕ) (f : Full) (fe s j : ℕ) → furthest_of f.nodes.mem f.stack s ≡ q → s < length f.stack.held → j < length f.list.held
     → Kept f → Kept (block_at q f fe s j).after
 unfolding Kept block_at with_stack with_list
-block_held Nothing f fe s j e h g x =
+block_held None f fe s j e h g x =
     record { stack = holds_cut (Used f.nodes.used) f.stack s (omega arith) x.stack; list = holds_without (Listed f.nodes.used) f.list j g x.list }
-block_held (At b) f fe s j e h g x = adopted_held f fe s j b (furthest_lt f.nodes.mem f.stack s b e) x
+block_held (Some b) f fe s j e h g x = adopted_held f fe s j b (furthest_lt f.nodes.mem f.stack s b e) x
 
-scope_held : (q : Found) (f : Full) (fe s j : ℕ) → s < length f.stack.held → j < length f.list.held → Kept f → Kept (scope_at q f fe s j).after
+scope_held : (q : Option ℕ) (f : Full) (fe s j : ℕ) → s < length f.stack.held → j < length f.list.held → Kept f → Kept (scope_at q f fe s j).after
 unfolding scope_at blocked
-scope_held Nothing f fe s j h g x = x
-scope_held (At k) f fe s j h g x = block_held (furthest_of f.nodes.mem f.stack s) f fe s j refl h g x
+scope_held None f fe s j h g x = x
+scope_held (Some k) f fe s j h g x = block_held (furthest_of f.nodes.mem f.stack s) f fe s j refl h g x
 
-open_held : (q : Found) (f : Full) (fe j : ℕ) → place_of f.stack fe ≡ q → j < length f.list.held → Kept f → Kept (open_at q f fe j).after
+open_held : (q : Option ℕ) (f : Full) (fe j : ℕ) → place_of f.stack fe ≡ q → j < length f.list.held → Kept f → Kept (open_at q f fe j).after
 unfolding Kept open_at scoped with_list
-open_held Nothing f fe j e g x = record { stack = x.stack; list = holds_without (Listed f.nodes.used) f.list j g x.list }
-open_held (At s) f fe j e g x = scope_held (in_scope DefaultScope (same fe) f.nodes.mem f.stack) f fe s j (place_last f.stack fe s e).below g x
+open_held None f fe j e g x = record { stack = x.stack; list = holds_without (Listed f.nodes.used) f.list j g x.list }
+open_held (Some s) f fe j e g x = scope_held (in_scope DefaultScope (same fe) f.nodes.mem f.stack) f fe s j (place_last f.stack fe s e).below g x
 
-entry_held : (q : Found) (f : Full) (name : ℕ) → entry_of f.nodes.mem f.list name ≡ q → Kept f → Kept (entry_at q f name).after
+entry_held : (q : Option ℕ) (f : Full) (name : ℕ) → entry_of f.nodes.mem f.list name ≡ q → Kept f → Kept (entry_at q f name).after
 unfolding Kept entry_at opened with_stack
-entry_held Nothing f name e x = record { stack = holds_ended (Used f.nodes.used) f.nodes.mem f.stack name x.stack; list = x.list }
-entry_held (At j) f name e x = open_held (place_of f.stack (at f.list j)) f (at f.list j) j refl (entry_lt f.nodes.mem f.list name j e) x
+entry_held None f name e x = record { stack = holds_ended (Used f.nodes.used) f.nodes.mem f.stack name x.stack; list = x.list }
+entry_held (Some j) f name e x = open_held (place_of f.stack (at f.list j)) f (at f.list j) j refl (entry_lt f.nodes.mem f.list name j e) x
 
 pub firm_rounded : (f : Full) (name k : ℕ) → Firm f.stack f.list f.nodes.used (suc k)
     → Firm (rounded f name).after.stack (rounded f name).after.list (rounded f name).after.nodes.used k

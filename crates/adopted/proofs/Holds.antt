@@ -1,13 +1,11 @@
 -- What every entry of some places has: each operation keeps the places whole, and keeps it, if the entry that comes in has it.
 -- Assumes nothing.
-use Rattle.std.proofs.Common.{ℕ, zero, suc, ◌+◌, ◌-◌, ◌≤◌, ◌<◌, ◌≡◌, refl, ap, sym, ◌∙◌, subst, Bool, true, false, List, ◌∷◌, ◌++◌, arith, eqb, length, get_or, take, drop, set, length-append, length-take, length-drop, length-set, get_or-append-add, get_or-drop, get_or-take, get_or-set_same, get_or-set_other, length-take-le, eqb-true}
+use Rattle.std.proofs.Common.{ℕ, zero, suc, ◌+◌, ◌-◌, ◌≤◌, ◌<◌, ◌≡◌, refl, ap, sym, ◌∙◌, subst, Bool, true, false, List, ◌∷◌, ◌++◌, arith, eqb, length, get_or, take, drop, set, length-append, length-take, length-drop, length-set, get_or-append-add, get_or-drop, get_or-take, get_or-set_same, get_or-set_other, length-take-le, eqb-true, None, Option, Some}
 use Rattle.std.proofs.Math.Decide.{dec_lt}
 use Rattle.std.proofs.Math.ListN.{get_or-append}
 use Rattle.std.proofs.lemmas.Bool.{eqb-false}
 use Rattle.names.specs.Sets.{Special}
 use Rattle.places.specs.Places.{Places, Whole, without, within, swapped, cut, place_of, after_at, exchanged_at, exchanged}
-use Rattle.places.specs.declared.Found.{Found}
-use Rattle.places.specs.declared.Found.TheVariants.{At, Nothing}
 use Rattle.standard.specs.Stack.{is_of, named, in_scope, ended_at, end_tag}
 use Rattle.standard.specs.Adoption.{gone, at_mark, relisted}
 use Rattle.places.proofs.Laws.{last_found}
@@ -82,28 +80,28 @@ module _ (P : ℕ → Type 0) where
   unfolding cut
   holds_cut p i h x = record { whole = record { all = sym (length-take-le i p.held h) }; each = each_take i p.held x.each }
 
-  holds_after : (q : Found) (p : Places) (n : ℕ) → P n → Holds P p → Holds P (after_at q p n)
+  holds_after : (q : Option ℕ) (p : Places) (n : ℕ) → P n → Holds P p → Holds P (after_at q p n)
   unfolding after_at
-  holds_after Nothing p n a x = x
-  holds_after (At i) p n a x = holds_within p (i + 1) n a x
+  holds_after None p n a x = x
+  holds_after (Some i) p n a x = holds_within p (i + 1) n a x
 
   pub holds_exchanged : (p : Places) (f y n : ℕ) → P n → Holds P p → Holds P (exchanged p f y n)
   unfolding exchanged exchanged_at
   holds_exchanged p f y n a x = by (place_of p f) refl
     where
-      by : (q : Found) → place_of p f ≡ q → Holds P (exchanged_at q p y n)
-      by Nothing e = x
-      by (At j) e = holds_after (place_of (without p j) y) (without p j) n a (holds_without p j (place_last p f j e).below x)
+      by : (q : Option ℕ) → place_of p f ≡ q → Holds P (exchanged_at q p y n)
+      by None e = x
+      by (Some j) e = holds_after (place_of (without p j) y) (without p j) n a (holds_without p j (place_last p f j e).below x)
 
   pub holds_relisted : (p : Places) (k fe n : ℕ) → P n → Holds P p → Holds P (relisted k p fe n)
   unfolding relisted at_mark
   holds_relisted p k fe n a x = by (place_of p fe) refl
     where
-      by : (q : Found) → place_of p fe ≡ q → Holds P (at_mark q p k n)
-      by Nothing e = x
-      by (At j) e = holds_within (without p j) (gone k j) n a (holds_without p j (place_last p fe j e).below x)
+      by : (q : Option ℕ) → place_of p fe ≡ q → Holds P (at_mark q p k n)
+      by None e = x
+      by (Some j) e = holds_within (without p j) (gone k j) n a (holds_without p j (place_last p fe j e).below x)
 
-  end_none : (m : List ℕ) (p : Places) (name : ℕ) → in_scope Special (named m name) m p ≡ Nothing → end_tag m p name ≡ p
+  end_none : (m : List ℕ) (p : Places) (name : ℕ) → in_scope Special (named m name) m p ≡ None → end_tag m p name ≡ p
   unfolding end_tag ended_at
   end_none m p name e = rw e
 
@@ -112,9 +110,9 @@ module _ (P : ℕ → Type 0) where
   unfolding in_scope
   holds_ended m p name x = by (in_scope Special (named m name) m p) refl
     where
-      by : (q : Found) → in_scope Special (named m name) m p ≡ q → Holds P (end_tag m p name)
-      by Nothing e = rw (end_none m p name e) x
-      by (At i) e =
+      by : (q : Option ℕ) → in_scope Special (named m name) m p ≡ q → Holds P (end_tag m p name)
+      by None e = rw (end_none m p name e) x
+      by (Some i) e =
           let h : i < length p.held = (last_found (named m name) (is_of Special m) p i e).below in
           rw (end_cut m p i x.whole name e) (holds_cut p i (omega arith) x)
 

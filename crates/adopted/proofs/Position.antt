@@ -1,13 +1,12 @@
 -- Where an entry of the list stands, as a position moves: when another entry leaves, when one is put in its place; and that the code's
 -- two bookmarks are such positions.
 -- Assumes nothing.
-use Rattle.std.proofs.Common.{ℕ, zero, suc, ◌+◌, ◌-◌, ◌≤◌, ◌<◌, ◌≡◌, refl, ap, sym, ◌∙◌, Bool, true, false, cond, List, ◌++◌, arith, add-one, eqb, ltb, length, get_or, take, drop, set, length-append, length-take, length-drop, length-set, take_at, drop_at, length-take-le, get_or-append-add, get_or-drop, get_or-take, get_or-set_same, get_or-set_other, eqb-true, lt-ltb, le-ltb, ltb-true, ltb-false}
+use Rattle.std.proofs.Common.{ℕ, zero, suc, ◌+◌, ◌-◌, ◌≤◌, ◌<◌, ◌≡◌, refl, ap, sym, ◌∙◌, Bool, true, false, cond, List, ◌++◌, arith, add-one, eqb, ltb, length, get_or, take, drop, set, length-append, length-take, length-drop, length-set, take_at, drop_at, length-take-le, get_or-append-add, get_or-drop, get_or-take, get_or-set_same, get_or-set_other, eqb-true, lt-ltb, le-ltb, ltb-true, ltb-false, Some}
 use Rattle.std.proofs.Math.Decide.{dec_lt}
 use Rattle.std.proofs.Math.ListN.{get_or-append}
 use Rattle.std.proofs.Math.Seq.{set_split}
 use Rattle.std.proofs.lemmas.Bool.{eqb-false}
 use Rattle.places.specs.Places.{Places, Whole, at, without, within, swapped, place_of, last_with, down, same, never, exchanged, renamed}
-use Rattle.places.specs.declared.Found.TheVariants.{At}
 use Rattle.places.proofs.Laws.{Last, last_found, last_same, places_eq, renamed_at_lem, after_at_lem, exchanged_at_lem}
 use Rattle.standard.specs.Html.{is_html}
 use Rattle.standard.specs.Stack.{named}
@@ -17,30 +16,30 @@ use Rattle.standard.specs.Adoption.{entry_of, gone, at_mark}
 -- ---- searches
 
 -- the last that is wanted is found where nothing stops the search
-pub last_down : (p : ℕ → Bool) (xs : List ℕ) (k i : ℕ) → Last p xs k i → down p never xs k ≡ At i
+pub last_down : (p : ℕ → Bool) (xs : List ℕ) (k i : ℕ) → Last p xs k i → down p never xs k ≡ Some i
 unfolding down
 last_down p xs zero i l = absurd (omega (arith, l.below))
 last_down p xs (suc k) i l = by (dec_lt i k) (last_down p xs k i)
   where
-    by : Dec (i < k) → (Last p xs k i → down p never xs k ≡ At i) → cond (p (get_or xs k 0)) (At k) (down p never xs k) ≡ At i
+    by : Dec (i < k) → (Last p xs k i → down p never xs k ≡ Some i) → cond (p (get_or xs k 0)) (Some k) (down p never xs k) ≡ Some i
     by (yes a) r = rw (l.none k a (omega arith)) (r (record { below = a; has = l.has; none = λ j g h. l.none j g (omega arith) }))
     by (no n) r = let z : i ≡ k = omega (arith, l.below) in rw (← z, l.has)
 
-pub place_last : (l : Places) (x q : ℕ) → place_of l x ≡ At q → Last (same x) l.held (length l.held) q
+pub place_last : (l : Places) (x q : ℕ) → place_of l x ≡ Some q → Last (same x) l.held (length l.held) q
 unfolding place_of
 place_last l x q e = last_found (same x) never l q e
 
-pub place_at : (l : Places) (x q : ℕ) → place_of l x ≡ At q → at l q ≡ x
+pub place_at : (l : Places) (x q : ℕ) → place_of l x ≡ Some q → at l q ≡ x
 unfolding at
 place_at l x q e = eqb-true (get_or l.held q 0) x (place_last l x q e).has
 
-pub last_place : (l : Places) (x q : ℕ) → Last (same x) l.held (length l.held) q → place_of l x ≡ At q
+pub last_place : (l : Places) (x q : ℕ) → Last (same x) l.held (length l.held) q → place_of l x ≡ Some q
 unfolding place_of last_with
 last_place l x q h = last_down (same x) l.held (length l.held) q h
 
 -- ---- the entry that 4.3 finds
 
-module _ (m : List ℕ) (l : Places) (name j : ℕ) (e : entry_of m l name ≡ At j) where
+module _ (m : List ℕ) (l : Places) (name j : ℕ) (e : entry_of m l name ≡ Some j) where
   entry_found : Last (named m name) l.held (length l.held) j
   unfolding entry_of
   entry_found = last_found (named m name) (same MARKER) l j e
@@ -53,7 +52,7 @@ module _ (m : List ℕ) (l : Places) (name j : ℕ) (e : entry_of m l name ≡ A
   entry_html = entry_found.has
 
   -- its element stands nowhere after it, so that a search for the element ends at it too
-  pub entry_last : place_of l (at l j) ≡ At j
+  pub entry_last : place_of l (at l j) ≡ Some j
   entry_last = last_place l (at l j) j (last_same (named m name) l j entry_found)
 
 -- ---- an entry leaves
@@ -149,7 +148,7 @@ gone_next q j d = by (ltb j q) refl
     by false u = let z = below j q (ltb-false j q u) d in rw (le-ltb j (q + 1) (omega arith))
 
 -- while the bookmark stands where it was set, right after the formatting element, the new entry takes that one's place
-pub replaced_is : (l : Places) (f j n : ℕ) → Whole l → place_of l f ≡ At j → renamed l f n ≡ at_mark (At j) l (j + 1) n
+pub replaced_is : (l : Places) (f j n : ℕ) → Whole l → place_of l f ≡ Some j → renamed l f n ≡ at_mark (Some j) l (j + 1) n
 unfolding at_mark gone swapped without within
 replaced_is l f j n w e =
     let x = l.held in
@@ -161,7 +160,7 @@ replaced_is l f j n w e =
     (places_eq (set_split x j n lt ∙ rw (take_at (take j x) (drop (j + 1) x) j li, drop_at (take j x) (drop (j + 1) x) j li, add-one)) refl)
 
 -- once it has moved to right after x, the formatting element leaves and the new entry comes right after x
-pub inserted_is : (l : Places) (f x j q n : ℕ) → place_of l f ≡ At j → place_of l x ≡ At q → (j ≡ q → ⊥) → exchanged l f x n ≡ at_mark (At j) l (q + 1) n
+pub inserted_is : (l : Places) (f x j q n : ℕ) → place_of l f ≡ Some j → place_of l x ≡ Some q → (j ≡ q → ⊥) → exchanged l f x n ≡ at_mark (Some j) l (q + 1) n
 unfolding at_mark
 inserted_is l f x j q n e g d =
     let w = last_without l j (place_last l f j e).below (same x) q (place_last l x q g) d in

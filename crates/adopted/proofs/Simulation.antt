@@ -2,11 +2,9 @@
 -- the same state. The two bookmarks stay at one place: the code's is the formatting element, or a node made in the loop, and a node
 -- that the loop meets is neither.
 -- Assumes nothing.
-use Rattle.std.proofs.Common.{ℕ, zero, suc, ◌+◌, ◌-◌, ◌≤◌, ◌<◌, ◌≡◌, refl, ap, sym, ◌∙◌, Bool, true, false, cond, inl, inr, List, arith, eqb, ltb, length, get_or, get_or-set_other, eq-eqb, ne_eqb, eqb-true, ltb-false}
+use Rattle.std.proofs.Common.{ℕ, zero, suc, ◌+◌, ◌-◌, ◌≤◌, ◌<◌, ◌≡◌, refl, ap, sym, ◌∙◌, Bool, true, false, cond, inl, inr, List, arith, eqb, ltb, length, get_or, get_or-set_other, eq-eqb, ne_eqb, eqb-true, ltb-false, None, Option, Some}
 use Rattle.std.proofs.lemmas.Bool.{eqb-false}
 use Rattle.places.specs.Places.{Places, Whole, at, same, without, swapped, place_of, exchanged, renamed}
-use Rattle.places.specs.declared.Found.{Found}
-use Rattle.places.specs.declared.Found.TheVariants.{At, Nothing}
 use Rattle.places.proofs.Laws.{Last, exchanged_none}
 use Rattle.state.specs.Full.{Full, with_stack, with_list, with_nodes}
 use Rattle.standard.specs.Place.{node}
@@ -45,15 +43,15 @@ apart xs x y k i j a b n e = n (sym (eqb-true (get_or xs i 0) x a.has) ∙ ap (�
 same_relisted : (b : Bookmark) (l : Places) (fe p u n : ℕ) → Whole l → fe ≤ u → Agree l b p fe u → bookmark.relisted b l fe n ≡ relisted p l fe n
 unfolding bookmark.relisted relisted at_mark node_of Good
 same_relisted (Replace x) l fe p u n w k a =
-    let e : place_of l fe ≡ At a.place = ap (place_of l) (sym a.good) ∙ last_place l x.0 a.place a.last in
+    let e : place_of l fe ≡ Some a.place = ap (place_of l) (sym a.good) ∙ last_place l x.0 a.place a.last in
     ap (λ (y : ℕ). renamed l y n) a.good ∙ replaced_is l fe a.place n w e ∙ rw (e, a.next)
 same_relisted (InsertAfter x) l fe p u n w k a = by (place_of l fe) refl
   where
-    by : (q : Found) → place_of l fe ≡ q → exchanged l fe x.0 n ≡ at_mark q l p n
-    by Nothing e = sym (exchanged_none l fe x.0 n e)
-    by (At j) e =
+    by : (q : Option ℕ) → place_of l fe ≡ q → exchanged l fe x.0 n ≡ at_mark q l p n
+    by None e = sym (exchanged_none l fe x.0 n e)
+    by (Some j) e =
         let d : j ≡ a.place → ⊥ = apart l.held fe x.0 (length l.held) j a.place (place_last l fe j e) a.last (λ z. absurd (omega (arith, a.good))) in
-        inserted_is l fe x.0 j a.place n e (last_place l x.0 a.place a.last) d ∙ ap (λ (y : ℕ). at_mark (At j) l y n) (sym a.next)
+        inserted_is l fe x.0 j a.place n e (last_place l x.0 a.place a.last) d ∙ ap (λ (y : ℕ). at_mark (Some j) l y n) (sym a.next)
 
 -- ---- one turn
 
@@ -64,7 +62,7 @@ other (Replace x) fe u n g le d e = d (e ∙ g)
 other (InsertAfter x) fe u n g le d e = absurd (omega (arith, g))
 
 -- node n, entry j of the list, is met
-module _ (l : Places) (b : Bookmark) (p fe u n j : ℕ) (a : Agree l b p fe u) (le : n ≤ u) (d : n ≡ fe → ⊥) (e : place_of l n ≡ At j) where
+module _ (l : Places) (b : Bookmark) (p fe u n j : ℕ) (a : Agree l b p fe u) (le : n ≤ u) (d : n ≡ fe → ⊥) (e : place_of l n ≡ Some j) where
   away : j ≡ a.place → ⊥
   away = apart l.held n (node_of b) (length l.held) j a.place (place_last l n j e) a.last (other b fe u n a.good le d)
 
@@ -82,7 +80,7 @@ module _ (l : Places) (b : Bookmark) (p fe u n j : ℕ) (a : Agree l b p fe u) (
   agree_swapped new x =
       record { place = a.place; last = last_swapped (same (node_of b)) l.held j a.place new a.last away (ne_eqb new (node_of b) x); next = a.next; good = a.good }
 
-agree_moved : (l : Places) (fe u n j new : ℕ) → place_of l n ≡ At j → ((i : ℕ) → i < length l.held → get_or l.held i 0 ≡ new → ⊥) → u < new
+agree_moved : (l : Places) (fe u n j new : ℕ) → place_of l n ≡ Some j → ((i : ℕ) → i < length l.held → get_or l.held i 0 ≡ new → ⊥) → u < new
     → Agree (swapped l j new) (InsertAfter (node new)) (j + 1) fe u
 unfolding swapped Good node_of
 agree_moved l fe u n j new e fresh lt =
@@ -107,10 +105,10 @@ record Fresh (w : Inner) (c k u : ℕ) : Type 0 where
   pub room : w.full.nodes.used + (3 - c) < 4096
   pub old : u ≤ w.full.nodes.used
 
-turn_mk : (q : Found) (w : Inner) (b : Bookmark) (block i c : ℕ) → bookmark.turn_at q (mk w b) block i c ≡ mk (turn_at q w block i c) (bookmark.turn_at q (mk w b) block i c).mark
+turn_mk : (q : Option ℕ) (w : Inner) (b : Bookmark) (block i c : ℕ) → bookmark.turn_at q (mk w b) block i c ≡ mk (turn_at q w block i c) (bookmark.turn_at q (mk w b) block i c).mark
 unfolding bookmark.turn_at turn_at mk renewed_at bookmark.renewed_at
-turn_mk Nothing w b block i c = refl
-turn_mk (At j) w b block i c = by (ltb 3 c)
+turn_mk None w b block i c = refl
+turn_mk (Some j) w b block i c = by (ltb 3 c)
   where
     by : (o : Bool)
         → cond {A = bookmark.Inner} o (bookmark.inner_at (left_both w.full i j) w.last b) (bookmark.renewed_at (mk w b) block i j)
@@ -124,12 +122,12 @@ unlisted : (n x new : ℕ) → Listed n x → n < new → new < 4096 → x ≡ n
 unlisted n x new (inl a) g h e = absurd (omega arith)
 unlisted n x new (inr a) g h e = absurd (omega arith)
 
-turn_agree : (q : Found) (w : Inner) (b : Bookmark) (block i c fe u : ℕ) → place_of w.full.list (at w.full.stack i) ≡ q → at w.full.stack i ≤ u → (at w.full.stack i ≡ fe → ⊥)
+turn_agree : (q : Option ℕ) (w : Inner) (b : Bookmark) (block i c fe u : ℕ) → place_of w.full.list (at w.full.stack i) ≡ q → at w.full.stack i ≤ u → (at w.full.stack i ≡ fe → ⊥)
     → Agree w.full.list b w.mark fe u → Fresh w c (suc i) u
     → Agree (turn_at q w block i (c + 1)).full.list (bookmark.turn_at q (mk w b) block i (c + 1)).mark (turn_at q w block i (c + 1)).mark fe u
 unfolding bookmark.turn_at turn_at mk renewed_at bookmark.renewed_at left_stack left_both renewed_in bookmark.mark_of with_stack with_list with_nodes
-turn_agree Nothing w b block i c fe u e le d a h = a
-turn_agree (At j) w b block i c fe u e le d a h = by (ltb 3 (c + 1)) refl (eqb w.last block)
+turn_agree None w b block i c fe u e le d a h = a
+turn_agree (Some j) w b block i c fe u e le d a h = by (ltb 3 (c + 1)) refl (eqb w.last block)
   where
     n : ℕ
     n = w.full.nodes.used
@@ -149,16 +147,16 @@ turn_agree (At j) w b block i c fe u e le d a h = by (ltb 3 (c + 1)) refl (eqb w
     by false z false = agree_swapped w.full.list b w.mark fe u (at w.full.stack i) j a le d e (n + 1) (unmarked (ltb-false 3 (c + 1) z))
 
 -- places before entry i stay as they were
-turn_front : (q : Found) (w : Inner) (block i c x : ℕ) → i < length w.full.stack.held → x < i → get_or (turn_at q w block i c).full.stack.held x 0 ≡ get_or w.full.stack.held x 0
+turn_front : (q : Option ℕ) (w : Inner) (block i c x : ℕ) → i < length w.full.stack.held → x < i → get_or (turn_at q w block i c).full.stack.held x 0 ≡ get_or w.full.stack.held x 0
 unfolding turn_at left_stack left_both renewed_at renewed_in with_stack with_list with_nodes swapped
-turn_front Nothing w block i c x h lt = without_before w.full.stack i h x lt
-turn_front (At j) w block i c x h lt = by (ltb 3 c)
+turn_front None w block i c x h lt = without_before w.full.stack i h x lt
+turn_front (Some j) w block i c x h lt = by (ltb 3 c)
   where
     by : (o : Bool) → get_or (cond {A = Inner} o (inner_at (left_both w.full i j) w.last (gone w.mark j)) (renewed_at w block i j)).full.stack.held x 0 ≡ get_or w.full.stack.held x 0
     by true = without_before w.full.stack i h x lt
     by false = get_or-set_other w.full.stack.held i x (w.full.nodes.used + 1) 0 (λ z. absurd (omega arith))
 
-turn_fresh : (q : Found) (w : Inner) (block i c u : ℕ) → place_of w.full.list (at w.full.stack i) ≡ q → Fresh w c (suc i) u → Fresh (turn_at q w block i (c + 1)) (c + 1) i u
+turn_fresh : (q : Option ℕ) (w : Inner) (block i c u : ℕ) → place_of w.full.list (at w.full.stack i) ≡ q → Fresh w c (suc i) u → Fresh (turn_at q w block i (c + 1)) (c + 1) i u
 turn_fresh q w block i c u e h =
     let m = turn_more q w block i c in
     record {
@@ -186,7 +184,7 @@ unfolding inner bookmark.inner turned bookmark.turned mk
 inner_agree zero c w b fe block u a h = record { mark = b; same_as = refl; agree = a; whole = h.walk.held.list.whole }
 inner_agree (suc i) c w b fe block u a h = by (eqb (at w.full.stack i) fe) refl (λ v x y. inner_agree i (c + 1) v x fe block u y)
   where
-    q : Found
+    q : Option ℕ
     q = place_of w.full.list (at w.full.stack i)
 
     by : (o : Bool) → eqb (at w.full.stack i) fe ≡ o
@@ -210,7 +208,7 @@ known : (s : Places) (i fe n : ℕ) → at s i ≡ fe → get_or s.held i 0 ≤ 
 unfolding at
 known s i fe n e h = rw (← e) h
 
-pub same_adopted : (f : Full) (fe s j b k : ℕ) → Firm f.stack f.list f.nodes.used (suc k) → place_of f.list fe ≡ At j → at f.stack s ≡ fe
+pub same_adopted : (f : Full) (fe s j b k : ℕ) → Firm f.stack f.list f.nodes.used (suc k) → place_of f.list fe ≡ Some j → at f.stack s ≡ fe
     → s < length f.stack.held → b < length f.stack.held → bookmark.adopted f fe s b ≡ adopted f fe s j b
 unfolding bookmark.adopted adopted bookmark.started started mk Good node_of
 same_adopted f fe s j b k x e g h l =
@@ -227,8 +225,8 @@ same_adopted f fe s j b k x e g h l =
     }))
 
 -- .. for the formatting element and the furthest block that a round finds
-pub same_round : (f : Full) (name s j b k : ℕ) → Firm f.stack f.list f.nodes.used (suc k) → entry_of f.nodes.mem f.list name ≡ At j
-    → place_of f.stack (at f.list j) ≡ At s → furthest_of f.nodes.mem f.stack s ≡ At b → bookmark.adopted f (at f.list j) s b ≡ adopted f (at f.list j) s j b
+pub same_round : (f : Full) (name s j b k : ℕ) → Firm f.stack f.list f.nodes.used (suc k) → entry_of f.nodes.mem f.list name ≡ Some j
+    → place_of f.stack (at f.list j) ≡ Some s → furthest_of f.nodes.mem f.stack s ≡ Some b → bookmark.adopted f (at f.list j) s b ≡ adopted f (at f.list j) s j b
 same_round f name s j b k x e g h =
     let lt : s < length f.stack.held = (place_last f.stack (at f.list j) s g).below in
     same_adopted f (at f.list j) s j b k x

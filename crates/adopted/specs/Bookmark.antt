@@ -2,10 +2,8 @@
 -- comes (`InsertAfter`). Each definition is the one of the same name in `standard/specs/Adoption.antt`, where the bookmark is a
 -- position, as in the standard; `proofs/Simulation.antt` shows that both give the same state.
 -- Assumes nothing.
-use Rattle.std.specs.Prelude.{ℕ, zero, suc, ◌+◌, ◌-◌, cond, eqb, ltb}
+use Rattle.std.specs.Prelude.{ℕ, zero, suc, ◌+◌, ◌-◌, cond, eqb, ltb, None, Option, Some}
 use Rattle.places.specs.Places.{Places, at, place_of, exchanged, renamed}
-use Rattle.places.specs.declared.Found.{Found}
-use Rattle.places.specs.declared.Found.TheVariants.{At, Nothing}
 use Rattle.state.specs.Full.{Full, with_stack, with_list, with_nodes}
 use Rattle.standard.specs.Place.{node}
 use Rattle.standard.specs.Adoption.{left_stack, left_both, renewed_in, placed_at, rehung}
@@ -30,9 +28,9 @@ renewed_at w block i j =
     inner_at (renewed_in w.full i j w.last) (w.full.nodes.used + 1) (mark_of w.last block (w.full.nodes.used + 1) w.mark)
 
 -- 4.13.4 to 4.13.9
-unfoldable pub turn_at : Found → Inner → ℕ → ℕ → ℕ → Inner
-turn_at Nothing w block i counter = inner_at (left_stack w.full i) w.last w.mark
-turn_at (At j) w block i counter = cond (ltb 3 counter) (inner_at (left_both w.full i j) w.last w.mark) (renewed_at w block i j)
+unfoldable pub turn_at : Option ℕ → Inner → ℕ → ℕ → ℕ → Inner
+turn_at None w block i counter = inner_at (left_stack w.full i) w.last w.mark
+turn_at (Some j) w block i counter = cond (ltb 3 counter) (inner_at (left_both w.full i j) w.last w.mark) (renewed_at w block i j)
 
 unfoldable pub turned : Inner → ℕ → ℕ → ℕ → Inner
 turned w block i counter = turn_at (place_of w.full.list (at w.full.stack i)) w block i counter

@@ -1,36 +1,20 @@
 // Steps 4.9 to 4.12 and 4.14 to 4.19: what is done before and after the inner loop.
-ghost use Rattle.std.specs.Prelude.{◌≡◌, List, ℕ, ◌+◌, ◌<◌, ◌≤◌, length, get_or};
-ghost use Rattle.places.specs.Places.{places_of, place_of};
-ghost use Rattle.places.specs.declared.Found.TheVariants.{At};
-ghost use Rattle.state.specs.declared.Context.{Context};
-ghost use Rattle.state.specs.Full.{full};
-ghost use Rattle.standard.specs.Adoption.{placed_at, rehung, adopted};
+ghost use Rattle.std.specs.Prelude.{◌≡◌, ℕ, ◌+◌, ◌<◌, ◌≤◌, length, get_or, Some};
+ghost use Rattle.places.specs.Places.{Whole, places_of, place_of};
+ghost use Rattle.state.specs.Builder.{SameLoans, full_of};
+ghost use Rattle.standard.specs.Adoption.{rehung, adopted};
 ghost use Rattle.adopted.specs.Bookmark.{inner_at, relisted, finished};
+ghost use Rattle.adopted.specs.Bookmark as by_bookmark;
 ghost use Rattle.adopted.specs.Firm.{Firm};
 
 use crate::bookmark::Bookmark;
 use crate::walk::Walk;
 use lent::Node;
 use location::place;
-use state::Core;
-
-// 4.14: the place is found before the node leaves its parent.
-fn place_last(h: &[u16], core: Core, nodes: &mut [u8], ancestor: Node, last: Node)
-    requires { (0 < core.depth) × (core.depth ≤ length h.now) }
-    ensures { (l m p q : List ℕ) (x : Context) → nodes.new ≡ placed_at (full h.now core x nodes.old l m p q) ancestor.0 last.0 }
-{
-    let p = place::appropriate_place_for_insertion(
-        nodes,
-        h,
-        core.depth,
-        core.flags.foster,
-        ancestor,
-    );
-    arena::links::detach(nodes, last);
-    place::attach(nodes, p, last);
-}
+use state::builder::Builder;
 
 // 4.15 to 4.17
+#[tactic(auto, unfolding(standard::specs::Adoption::rehung))]
 fn rehang(nodes: &mut [u8], new: Node, fe: Node, block: Node)
     ensures { nodes.new ≡ rehung nodes.old new.0 fe.0 block.0 }
 {
@@ -40,9 +24,11 @@ fn rehang(nodes: &mut [u8], new: Node, fe: Node, block: Node)
 }
 
 // 4.18
+#[tactic(auto, unfolding(crate::specs::Bookmark::relisted))]
 fn relist(list: &mut [u16], count: usize, fe: u16, mark: Bookmark, new: u16) -> usize
     requires { count ≤ length list.old }
-    ensures { (result ≤ count) × (places_of list.new result ≡ relisted mark (places_of list.old count) fe new) }
+    ensures least { result ≤ count }
+    ensures places { places_of list.new result ≡ relisted mark (places_of list.old count) fe new }
 {
     match mark {
         Bookmark::Replace(x) => {
@@ -54,50 +40,50 @@ fn relist(list: &mut [u16], count: usize, fe: u16, mark: Bookmark, new: u16) -> 
 }
 
 // 4.14 to 4.19
-fn finish(
-    h: &mut [u16],
-    w: Walk,
-    nodes: &mut [u8],
-    list: &mut [u16],
-    fe: u16,
-    block: u16,
-    ancestor: u16,
-) -> Core
-    requires depth_nonzero { (0 < w.core.depth) × (w.core.depth ≤ length h.old) }
-    requires list_in_bounds { (w.core.counts.list ≤ length list.old) × (w.core.counts.nodes < 4096) }
-    ensures counts { (result.depth ≤ w.core.depth) × (result.counts.list ≤ w.core.counts.list) × (result.counts.nodes ≡ w.core.counts.nodes + 1) }
-    ensures outcome { (m p q : List ℕ) (x : Context) → full h.new result x nodes.new list.new m p q ≡ finished (inner_at (full h.old w.core x nodes.old list.old m p q) w.last w.mark) fe block ancestor }
+#[tactic(auto, unfolding(state::specs::Fields::set_depth, state::specs::Fields::set_nodes, state::specs::Fields::set_list, state::specs::Fields::set_counts))]
+fn finish(b: &mut Builder<'_>, w: Walk, fe: u16, block: u16, ancestor: u16)
+    requires some { 0 < (full_of b.old).stack.size }
+    requires stack { Whole (full_of b.old).stack }
+    requires list { Whole (full_of b.old).list }
+    requires room { (full_of b.old).nodes.used < 4096 }
+    ensures loans { SameLoans b.old b.new }
+    ensures depth { (full_of b.new).stack.size ≤ (full_of b.old).stack.size }
+    ensures listed { (full_of b.new).list.size ≤ (full_of b.old).list.size }
+    ensures nodes { (full_of b.new).nodes.used ≡ (full_of b.old).nodes.used + 1 }
+    ensures outcome { full_of b.new ≡ finished (inner_at (full_of b.old) w.last w.mark) fe block ancestor }
 {
-    let core = w.core;
-    let last = w.last;
-    let mark = w.mark;
-    let used = core.counts.nodes;
+    let used = b.core.counts.nodes;
     let new = lent::room::next(used);
-    place_last(h, core, nodes, Node(ancestor), Node(last));
-    rehang(nodes, Node(new), Node(fe), Node(block));
-    let depth = places::exchange(h, core.depth, fe, block, new);
-    let count = relist(list, core.counts.list, fe, mark, new);
-    core.with_nodes(used + 1).with_depth(depth).with_list(count)
+    // 4.14: the place is found before the node leaves its parent.
+    let place = place::appropriate_place_for_insertion(b, Node(ancestor));
+    arena::links::detach(b.nodes, Node(w.last));
+    place::attach(b.nodes, place, Node(w.last));
+    rehang(b.nodes, Node(new), Node(fe), Node(block));
+    let depth = places::exchange(b.stack, b.core.depth, fe, block, new);
+    let count = relist(b.list, b.core.counts.list, fe, w.mark, new);
+    b.core = b
+        .core
+        .with_nodes(used + 1)
+        .with_depth(depth)
+        .with_list(count);
 }
 
-// 4.9 to 4.19: fe is entry s of the stack, and its furthest block entry b.
-pub fn adopt(
-    h: &mut [u16],
-    core: Core,
-    nodes: &mut [u8],
-    list: &mut [u16],
-    fe: u16,
-    s: usize,
-    b: usize,
-) -> Core
-    requires firm { Firm (places_of h.old core.depth) (places_of list.old core.counts.list) core.counts.nodes 1 }
-    requires s_lt_depth { (s < core.depth) × (b < core.depth) }
-    ensures counts { (result.depth ≤ core.depth) × (result.counts.list ≤ core.counts.list) × (result.counts.nodes ≤ core.counts.nodes + 4) }
-    ensures outcome { (j : ℕ) (m p q : List ℕ) (x : Context) → place_of (places_of list.old core.counts.list) fe ≡ At j → get_or h.old s 0 ≡ fe → full h.new result x nodes.new list.new m p q ≡ adopted (full h.old core x nodes.old list.old m p q) fe s j b }
+/// 4.9 to 4.19: `fe`, the formatting element, is entry `s` of the stack, and its furthest block entry `at`. At most four nodes are made. What it does is said by the bookmark as
+/// the code has it (`steps`), and, where `fe` is in the list, as the standard has it (`outcome`).
+pub fn adopt(b: &mut Builder<'_>, fe: u16, s: usize, at: usize)
+    requires firm { Firm (full_of b.old).stack (full_of b.old).list (full_of b.old).nodes.used 1 }
+    requires open { s < (full_of b.old).stack.size }
+    requires block { at < (full_of b.old).stack.size }
+    ensures loans { SameLoans b.old b.new }
+    ensures depth { (full_of b.new).stack.size ≤ (full_of b.old).stack.size }
+    ensures listed { (full_of b.new).list.size ≤ (full_of b.old).list.size }
+    ensures nodes { (full_of b.new).nodes.used ≤ (full_of b.old).nodes.used + 4 }
+    ensures steps { full_of b.new ≡ by_bookmark.adopted (full_of b.old) fe s at }
+    ensures outcome { (j : ℕ) → place_of (full_of b.old).list fe ≡ Some j → get_or (full_of b.old).stack.held s 0 ≡ fe → full_of b.new ≡ adopted (full_of b.old) fe s j at }
 {
-    let block = h[b];
-    let up = places::previous(s);
-    let ancestor = h[up];
-    let w = crate::walk::walk_up(h, core, nodes, list, fe, block, b);
-    finish(h, w, nodes, list, fe, block, ancestor)
+    let block = b.stack[at];
+    let up = s.saturating_sub(1);
+    let ancestor = b.stack[up];
+    let w = crate::walk::walk_up(b, fe, block, at);
+    finish(b, w, fe, block, ancestor);
 }

@@ -1,24 +1,23 @@
 // Step 4.13, the inner loop: from the furthest block up to the formatting element.
-ghost use Rattle.std.specs.Prelude.{◌≡◌, List, ℕ, ◌+◌, ◌-◌, ◌<◌, ◌≤◌, length};
-ghost use Rattle.state.specs.declared.Context.{Context};
-ghost use Rattle.state.specs.Full.{full};
+ghost use Rattle.std.specs.Prelude.{◌≡◌, ◌+◌, ◌-◌, ◌<◌, ◌≤◌};
+ghost use Rattle.places.specs.Places.{Whole, at, place_of};
+ghost use Rattle.state.specs.Builder.{SameLoans, full_of};
 ghost use Rattle.standard.specs.Adoption.{renewed, left_both};
 ghost use Rattle.adopted.specs.Bookmark.{inner_at, mark_of, renewed_at, turned, inner, started};
 
 use crate::bookmark::Bookmark;
 use lent::Node;
-use places::Found;
-use state::Core;
+use state::builder::Builder;
 
-// Where the inner loop stands.
-#[derive(Clone, Copy)]
+/// Where the inner loop stands: the standard's last node, and where the new entry of the list is to go.
+#[derive(Clone, Copy, Debug, PartialEq, Eq)]
 pub struct Walk {
-    pub core: Core,
     pub last: u16,
     pub mark: Bookmark,
 }
 
 // 4.13.6 and 4.13.8 in the tree.
+#[tactic(auto, unfolding(standard::specs::Adoption::renewed))]
 fn renew(nodes: &mut [u8], new: Node, node: Node, last: Node)
     ensures { nodes.new ≡ renewed nodes.old new.0 node.0 last.0 }
 {
@@ -39,118 +38,107 @@ fn marked(last: u16, block: u16, new: u16, mark: Bookmark) -> Bookmark
 }
 
 // 4.13.6 to 4.13.9: the node at entry i of the stack and j of the list is made anew.
-fn renew_at(
-    h: &mut [u16],
-    w: Walk,
-    nodes: &mut [u8],
-    list: &mut [u16],
-    block: u16,
-    i: usize,
-    j: usize,
-) -> Walk
-    requires i_lt_depth { (i < w.core.depth) × (w.core.depth ≤ length h.old) }
-    requires j_lt_list { (j < w.core.counts.list) × (w.core.counts.list ≤ length list.old) × (w.core.counts.nodes < 4096) }
-    ensures counts { (result.core.depth ≡ w.core.depth) × (result.core.counts.list ≡ w.core.counts.list) × (result.core.counts.nodes ≡ w.core.counts.nodes + 1) }
-    ensures outcome { (m p q : List ℕ) (x : Context) → inner_at (full h.new result.core x nodes.new list.new m p q) result.last result.mark ≡ renewed_at (inner_at (full h.old w.core x nodes.old list.old m p q) w.last w.mark) block i j }
+fn renew_at(b: &mut Builder<'_>, w: Walk, block: u16, i: usize, j: usize) -> Walk
+    requires open { i < (full_of b.old).stack.size }
+    requires stack { Whole (full_of b.old).stack }
+    requires listed { j < (full_of b.old).list.size }
+    requires list { Whole (full_of b.old).list }
+    requires room { (full_of b.old).nodes.used < 4096 }
+    ensures loans { SameLoans b.old b.new }
+    ensures outcome { inner_at (full_of b.new) result.last result.mark ≡ renewed_at (inner_at (full_of b.old) w.last w.mark) block i j }
 {
-    let core = w.core;
-    let last = w.last;
-    let mark = w.mark;
-    let used = core.counts.nodes;
+    let used = b.core.counts.nodes;
     let new = lent::room::next(used);
-    renew(nodes, Node(new), Node(h[i]), Node(last));
-    places::swap_at(h, core.depth, i, new);
-    places::swap_at(list, core.counts.list, j, new);
+    let node = b.stack[i];
+    renew(b.nodes, Node(new), Node(node), Node(w.last));
+    places::swap_at(b.stack, b.core.depth, i, new);
+    places::swap_at(b.list, b.core.counts.list, j, new);
+    b.core = b.core.with_nodes(used + 1);
     Walk {
-        core: core.with_nodes(used + 1),
         last: new,
-        mark: marked(last, block, new, mark),
+        mark: marked(w.last, block, new, w.mark),
     }
 }
 
 // 4.13.4 and 4.13.5: the node at entry i of the stack and j of the list leaves both.
-fn leave_both(h: &mut [u16], core: Core, list: &mut [u16], i: usize, j: usize) -> Core
-    requires i_lt_depth { (i < core.depth) × (core.depth ≤ length h.old) }
-    requires j_lt_list { (j < core.counts.list) × (core.counts.list ≤ length list.old) }
-    ensures counts { (result.depth ≡ core.depth - 1) × (result.counts.list ≡ core.counts.list - 1) × (result.counts.nodes ≡ core.counts.nodes) }
-    ensures outcome { (n m p q : List ℕ) (x : Context) → full h.new result x n list.new m p q ≡ left_both (full h.old core x n list.old m p q) i j }
+#[tactic(auto, using(crate::proofs::WalkLaws::both_left))]
+fn leave_both(b: &mut Builder<'_>, i: usize, j: usize)
+    requires open { i < (full_of b.old).stack.size }
+    requires stack { Whole (full_of b.old).stack }
+    requires listed { j < (full_of b.old).list.size }
+    requires list { Whole (full_of b.old).list }
+    ensures loans { SameLoans b.old b.new }
+    ensures outcome { full_of b.new ≡ left_both (full_of b.old) i j }
 {
-    let less = places::remove_at(h, core.depth, i);
-    let fewer = places::remove_at(list, core.counts.list, j);
-    core.with_depth(less).with_list(fewer)
+    let less = places::remove_at(b.stack, b.core.depth, i);
+    let fewer = places::remove_at(b.list, b.core.counts.list, j);
+    b.core = b.core.with_depth(less).with_list(fewer);
+}
+
+// Where the node at entry i of the stack stands in the list.
+#[tactic(auto, using(places::proofs::Laws::at_of))]
+fn listed(b: &Builder<'_>, i: usize) -> Option<usize>
+    requires open { i < (full_of b.now).stack.size }
+    requires stack { Whole (full_of b.now).stack }
+    requires list { Whole (full_of b.now).list }
+    ensures { result ≡ place_of (full_of b.now).list (at (full_of b.now).stack i) }
+{
+    places::find(b.list, b.core.counts.list, b.stack[i])
 }
 
 // 4.13.4 to 4.13.9 for the node at entry i of the stack: at most one node is made, and none past the third turn.
-fn turn(
-    h: &mut [u16],
-    w: Walk,
-    nodes: &mut [u8],
-    list: &mut [u16],
-    block: u16,
-    i: usize,
-    counter: usize,
-) -> Walk
-    requires i_lt_depth { (i < w.core.depth) × (w.core.depth ≤ length h.old) }
-    requires list_in_bounds { (w.core.counts.list ≤ length list.old) × (w.core.counts.nodes + (4 - counter) ≤ 4096) }
-    ensures counts { (result.core.depth ≤ w.core.depth) × (w.core.depth ≤ result.core.depth + 1) × (result.core.counts.list ≤ w.core.counts.list) × (result.core.counts.nodes + (3 - counter) ≤ w.core.counts.nodes + (4 - counter)) }
-    ensures outcome { (m p q : List ℕ) (x : Context) → inner_at (full h.new result.core x nodes.new list.new m p q) result.last result.mark ≡ turned (inner_at (full h.old w.core x nodes.old list.old m p q) w.last w.mark) block i counter }
+#[tactic(auto, using(crate::proofs::WalkLaws::turn_none, crate::proofs::WalkLaws::turn_new, crate::proofs::WalkLaws::stack_left))]
+fn turn(b: &mut Builder<'_>, w: Walk, block: u16, i: usize, counter: usize) -> Walk
+    requires open { i < (full_of b.old).stack.size }
+    requires stack { Whole (full_of b.old).stack }
+    requires list { Whole (full_of b.old).list }
+    requires room { (full_of b.old).nodes.used + (4 - counter) ≤ 4096 }
+    ensures loans { SameLoans b.old b.new }
+    ensures outcome { inner_at (full_of b.new) result.last result.mark ≡ turned (inner_at (full_of b.old) w.last w.mark) block i counter }
 {
-    let core = w.core;
-    let last = w.last;
-    let mark = w.mark;
-    match places::find(list, core.counts.list, h[i]) {
-        Found::Nothing => {
-            let depth = places::leave_at(h, core.depth, i);
-            Walk {
-                core: core.with_depth(depth),
-                last: last,
-                mark: mark,
-            }
+    match listed(b, i) {
+        None => {
+            let depth = places::leave_at(b.stack, b.core.depth, i);
+            b.core = b.core.with_depth(depth);
+            w
         }
-        Found::At(j) => {
+        Some(j) => {
             // 4.13.4
             let leaves = 3 < counter;
             if leaves {
-                return Walk {
-                    core: leave_both(h, core, list, i, j),
-                    last: last,
-                    mark: mark,
-                };
+                leave_both(b, i, j);
+                return w;
             }
-            renew_at(h, w, nodes, list, block, i, j)
+            renew_at(b, w, block, i, j)
         }
     }
 }
 
-// 4.13 from entry b of the stack, the furthest block, up to fe.
-pub fn walk_up(
-    h: &mut [u16],
-    core: Core,
-    nodes: &mut [u8],
-    list: &mut [u16],
-    fe: u16,
-    block: u16,
-    b: usize,
-) -> Walk
-    requires b_lt_depth { (b < core.depth) × (core.depth ≤ length h.old) }
-    requires list_in_bounds { (core.counts.list ≤ length list.old) × (core.counts.nodes + 3 ≤ 4096) }
-    ensures counts { (0 < result.core.depth) × (result.core.depth ≤ core.depth) × (result.core.counts.list ≤ core.counts.list) × (result.core.counts.nodes ≤ core.counts.nodes + 3) }
-    ensures outcome { (m p q : List ℕ) (x : Context) → inner_at (full h.new result.core x nodes.new list.new m p q) result.last result.mark ≡ inner (started (full h.old core x nodes.old list.old m p q) fe block) fe block 0 b }
+/// 4.13 from entry `at` of the stack, which is `block`, the furthest block, up to `fe`, the formatting element. At most three nodes are made.
+pub fn walk_up(b: &mut Builder<'_>, fe: u16, block: u16, at: usize) -> Walk
+    requires open { at < (full_of b.old).stack.size }
+    requires stack { Whole (full_of b.old).stack }
+    requires list { Whole (full_of b.old).list }
+    requires room { (full_of b.old).nodes.used + 3 ≤ 4096 }
+    ensures loans { SameLoans b.old b.new }
+    ensures some { 0 < (full_of b.new).stack.size }
+    ensures stack { Whole (full_of b.new).stack }
+    ensures list { Whole (full_of b.new).list }
+    ensures depth { (full_of b.new).stack.size ≤ (full_of b.old).stack.size }
+    ensures listed { (full_of b.new).list.size ≤ (full_of b.old).list.size }
+    ensures nodes { (full_of b.new).nodes.used ≤ (full_of b.old).nodes.used + 3 }
+    ensures outcome { inner_at (full_of b.new) result.last result.mark ≡ inner (started (full_of b.old) fe block) fe block 0 at }
 {
     let mut w = Walk {
-        core: core,
         last: block,
         mark: Bookmark::Replace(Node(fe)),
     };
-    let mut at = b;
-    let mut counter: usize = 0;
-    while 0 < at {
-        at -= 1;
-        counter += 1;
-        if h[at] == fe {
+    for i in (0..at).rev() {
+        if b.stack[i] == fe {
             return w;
         }
-        w = turn(h, w, nodes, list, block, at, counter);
+        // 4.13.1: the counter is how far up from the furthest block the node is.
+        w = turn(b, w, block, i, at - i);
     }
     w
 }

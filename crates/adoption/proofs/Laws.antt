@@ -1,25 +1,16 @@
--- The rounds, and the cases of calls 8 and 9, as the code meets them, for any part of the state that it is not lent.
+-- The rounds, and the cases of calls 8 and 9, as the code meets them.
 -- Assumes nothing.
-use Rattle.std.proofs.Common.{ℕ, zero, suc, ◌-◌, ◌<◌, ◌≤◌, ◌≡◌, refl, sym, ap, ◌∙◌, Bool, true, false, not, List, arith, sub-one, get_or, lt-ltb, le-ltb}
+use Rattle.std.specs.Prelude.{is_some}
+use Rattle.std.proofs.Common.{ℕ, zero, suc, ◌-◌, ◌<◌, ◌≤◌, ◌≡◌, refl, sym, ap, ◌∙◌, Bool, true, false, not, ◌&&◌, cond, arith, sub-one, None, Option, Some}
 use Rattle.names.specs.Space as space
 use Rattle.names.specs.Tag as tag
 use Rattle.names.specs.Sets.{is_in, Formatting}
-use Rattle.lent.specs.Room.{free_nodes}
-use Rattle.places.specs.Places.{places_of, cut, place_of, left}
-use Rattle.places.specs.declared.Found.{Found}
-use Rattle.places.specs.declared.Found.TheVariants.{At, Nothing}
-use Rattle.places.proofs.Laws.{at_of}
-use Rattle.state.specs.declared.Core.{Core}
-use Rattle.state.specs.declared.Context.{Context}
-use Rattle.state.specs.Fields.{set_depth, set_list}
-use Rattle.state.specs.Full.{Full, Result, full, result_of, done}
-use Rattle.standard.specs.Html.{is_html}
+use Rattle.places.specs.Places.{at, cut, place_of}
+use Rattle.state.specs.Full.{Full, Result, result_of, done, with_stack}
+use Rattle.standard.specs.Html.{is_html, current}
 use Rattle.standard.specs.Stack.{shorter}
 use Rattle.standard.specs.Adoption.{Turn, entry_of, rounded, rounds, current_at, agency, few_nodes, adoption, leaves, misnested_at, misnested}
-use Rattle.small.proofs.Laws.{size_of, stack_put}
-use Rattle.small.proofs.Laws.{current_of}
 use Rattle.rounds.specs.Turns.{turn_of, further}
-use Rattle.rounds.proofs.TurnLaws.{both_put}
 
 -- ---- the rounds: after the first, k of them are left
 
@@ -45,65 +36,67 @@ module _ (b : Bool) (f : Full) (name : ℕ) where
   further_on zero h e et = absurd (omega arith)
   further_on (suc k) h e et = rw (e, et, sub-one)
 
-module _ (s n l m p q : List ℕ) (x : Context) (c : Core) where
-  -- ---- 2
+-- ---- 2
 
-  module _ (name top : ℕ) {o : Found} (eo : o ≡ place_of (places_of l c.counts.list) top) where
-    pub current_none : (s' : List ℕ) (size : ℕ) {c' : Core} → o ≡ Nothing → places_of s' size ≡ cut (places_of s c.depth) (c.depth - 1) → c' ≡ set_depth c size
-        → full s' c' x n l m p q ≡ current_at (place_of (places_of l c.counts.list) top) (full s c x n l m p q) name
-    unfolding current_at shorter
-    current_none s' size e ep ec = stack_put s n l m p q x c s' size (shorter (places_of s c.depth)) (ep ∙ rw (size_of s c.depth)) ec ∙ rw (sym eo ∙ e)
+-- one test, or both
+pub unlisted_other : (s : Bool) {h : Bool} → h ≡ false → h ≡ h && not s
+unlisted_other s e = rw e
 
-    pub current_at_lem : {j : ℕ} {y : Full} → o ≡ At j → y ≡ rounds (full s c x n l m p q) name 8 → y ≡ current_at (place_of (places_of l c.counts.list) top) (full s c x n l m p q) name
-    unfolding current_at
-    current_at_lem e ey = ey ∙ rw (sym eo ∙ e)
+pub unlisted_named : (s h b : Bool) → h ≡ true → s ≡ not b → b ≡ h && not s
+unlisted_named s h true e g = rw (e, g)
+unlisted_named s h false e g = rw (e, g)
 
-  module _ (name : ℕ) {b : Bool} {y : Full} (h : 0 < c.depth) (eb : b ≡ is_html n (get_or s (c.depth - 1) 0) name) where
-    pub agency_named : b ≡ true → y ≡ current_at (place_of (places_of l c.counts.list) (get_or s (c.depth - 1) 0)) (full s c x n l m p q) name → y ≡ agency (full s c x n l m p q) name
-    unfolding agency
-    agency_named e ey = ey ∙ rw (current_of s c.depth h, sym eb ∙ e)
+module _ (f : Full) (name : ℕ) {b : Bool} {y : Full} (eb : b ≡ is_html f.nodes.mem (current f.stack) name && not (is_some (place_of f.list (current f.stack)))) where
+  pub agency_popped : b ≡ true → y ≡ with_stack f (cut f.stack (f.stack.size - 1)) → y ≡ agency f name
+  unfolding agency current_at shorter
+  agency_popped e ey = ey ∙ by (is_html f.nodes.mem (current f.stack) name) (place_of f.list (current f.stack)) (sym eb ∙ e)
+    where
+      by : (h : Bool) (o : Option ℕ) → h && not (is_some o) ≡ true → with_stack f (cut f.stack (f.stack.size - 1)) ≡ cond h (current_at o f name) (rounds f name 8)
+      by true None g = refl
+      by true (Some j) g = cc
+      by false o g = cc
 
-    pub agency_other : b ≡ false → y ≡ rounds (full s c x n l m p q) name 8 → y ≡ agency (full s c x n l m p q) name
-    unfolding agency
-    agency_other e ey = ey ∙ rw (current_of s c.depth h, sym eb ∙ e)
+  pub agency_rounds : b ≡ false → y ≡ rounds f name 8 → y ≡ agency f name
+  unfolding agency current_at
+  agency_rounds e ey = ey ∙ by (is_html f.nodes.mem (current f.stack) name) (place_of f.list (current f.stack)) (sym eb ∙ e)
+    where
+      by : (h : Bool) (o : Option ℕ) → h && not (is_some o) ≡ false → rounds f name 8 ≡ cond h (current_at o f name) (rounds f name 8)
+      by true None g = cc
+      by true (Some j) g = refl
+      by false o g = refl
 
-  -- ---- 8
+-- ---- 8
 
-  module _ (name : ℕ) {b : Bool} (eb : b ≡ is_in Formatting space.html name) where
-    pub adoption_bad : not b ≡ true → result_of 2 (full s c x n l m p q) ≡ adoption (full s c x n l m p q) name
+module _ (f : Full) (name : ℕ) {b : Bool} (eb : b ≡ is_in Formatting space.html name) where
+  pub adoption_bad : b ≡ false → result_of 2 f ≡ adoption f name
+  unfolding adoption
+  adoption_bad h = rw (sym eb ∙ h)
+
+  module _ (h : b ≡ true) {k : Bool} (ek : k ≡ few_nodes f) where
+    pub adoption_few : k ≡ true → result_of 4 f ≡ adoption f name
     unfolding adoption
-    adoption_bad h = rw (← eb, h)
+    adoption_few g = rw (sym eb ∙ h, sym ek ∙ g)
 
-    module _ (h : not b ≡ false) {k : ℕ} (ek : k ≡ free_nodes n c.counts.nodes) where
-      pub adoption_few : k < 32 → result_of 4 (full s c x n l m p q) ≡ adoption (full s c x n l m p q) name
-      unfolding adoption few_nodes
-      adoption_few g = rw (← eb, h, ← ek, lt-ltb k 32 g)
+    pub adoption_done : {y : Full} → k ≡ false → y ≡ agency f name → result_of 0 y ≡ adoption f name
+    unfolding adoption
+    adoption_done g ey = ap done ey ∙ rw (sym eb ∙ h, sym ek ∙ g)
 
-      pub adoption_done : {y : Full} → 32 ≤ k → y ≡ agency (full s c x n l m p q) name → result_of 0 y ≡ adoption (full s c x n l m p q) name
-      unfolding adoption few_nodes
-      adoption_done g ey = ap done ey ∙ rw (← eb, h, ← ek, le-ltb k 32 g)
+-- ---- 9
 
-  -- ---- 9
+module _ (f : Full) (j : ℕ) {k : Bool} (ek : k ≡ few_nodes f) where
+  pub misnested_few : k ≡ true → result_of 4 f ≡ misnested_at (Some j) f
+  unfolding misnested_at
+  misnested_few g = rw (← ek, g)
 
-  pub left_both_lem : (a : ℕ) (s' l' : List ℕ) (size fewer : ℕ) {c₁ c' : Core} → places_of s' size ≡ left (places_of s c.depth) a → places_of l' fewer ≡ left (places_of l c.counts.list) a
-      → c₁ ≡ set_depth c size → c' ≡ set_list c₁ fewer → full s' c' x n l' m p q ≡ leaves (full s c x n l m p q) a
-  unfolding leaves
-  left_both_lem a s' l' size fewer ep eq ec ed = both_put s n l m p q x c s' l' size fewer _ _ ep eq ec ed
+  pub misnested_done : {w y : Full} → k ≡ false → w ≡ agency f tag.a → y ≡ leaves w (at f.list j) → result_of 0 y ≡ misnested_at (Some j) f
+  unfolding misnested_at
+  misnested_done g ew ey = ap done ey ∙ rw (ew, ← ek, g)
 
-  module _ (j : ℕ) {k : ℕ} (ek : k ≡ free_nodes n c.counts.nodes) where
-    pub misnested_few : k < 32 → result_of 4 (full s c x n l m p q) ≡ misnested_at (At j) (full s c x n l m p q)
-    unfolding misnested_at few_nodes
-    misnested_few g = rw (← ek, lt-ltb k 32 g)
+module _ (f : Full) {o : Option ℕ} (eo : o ≡ entry_of f.nodes.mem f.list tag.a) where
+  pub misnested_none : o ≡ None → result_of 0 f ≡ misnested f
+  unfolding misnested misnested_at
+  misnested_none e = rw (sym eo ∙ e)
 
-    pub misnested_done : {w y : Full} → j < c.counts.list → 32 ≤ k → w ≡ agency (full s c x n l m p q) tag.a → y ≡ leaves w (get_or l j 0) → result_of 0 y ≡ misnested_at (At j) (full s c x n l m p q)
-    unfolding misnested_at few_nodes
-    misnested_done lt g ew ey = ap done ey ∙ rw (ew, at_of l c.counts.list j lt, ← ek, le-ltb k 32 g)
-
-  module _ {o : Found} (eo : o ≡ entry_of n (places_of l c.counts.list) tag.a) where
-    pub misnested_none : o ≡ Nothing → result_of 0 (full s c x n l m p q) ≡ misnested (full s c x n l m p q)
-    unfolding misnested misnested_at
-    misnested_none e = rw (sym eo ∙ e)
-
-    pub misnested_at_lem : {j : ℕ} {y : Result} → o ≡ At j → y ≡ misnested_at (At j) (full s c x n l m p q) → y ≡ misnested (full s c x n l m p q)
-    unfolding misnested
-    misnested_at_lem e ey = ey ∙ rw (sym eo ∙ e)
+  pub misnested_at_lem : {j : ℕ} {y : Result} → o ≡ Some j → y ≡ misnested_at (Some j) f → y ≡ misnested f
+  unfolding misnested
+  misnested_at_lem e ey = ey ∙ rw (sym eo ∙ e)

@@ -1,22 +1,24 @@
 #![tactic(auto)]
 // Calls 8 and 9: the adoption agency for an end tag, and for a start tag `a` that meets an `a` in the list (13.2.6.4.7).
-ghost use Rattle.std.specs.Prelude.{◌≡◌, List, ℕ, ◌<◌, ◌≤◌, length};
-ghost use Rattle.places.specs.Places.{places_of, place_of};
-ghost use Rattle.places.specs.declared.Found.TheVariants.{At};
-ghost use Rattle.state.specs.declared.Context.{Context};
-ghost use Rattle.state.specs.Full.{full, result_of};
-ghost use Rattle.standard.specs.Adoption.{rounds, current_at, adoption, leaves, misnested_at, misnested};
+ghost use Rattle.std.specs.Prelude.{◌≡◌, ◌<◌, ◌&&◌, not, is_some, Some};
+ghost use Rattle.places.specs.Places.{Whole, place_of};
+ghost use Rattle.records.specs.Refusal.{answer_number};
+ghost use Rattle.state.specs.Builder.{SameLoans, full_of};
+ghost use Rattle.state.specs.Full.{result_of};
+ghost use Rattle.standard.specs.Html.{is_html, current};
+ghost use Rattle.standard.specs.Adoption.{rounds, few_nodes, adoption, leaves, misnested_at, misnested};
 ghost use Rattle.standard.specs.Adoption as def;
 ghost use Rattle.adopted.specs.Firm.{Firm};
 ghost use Rattle.rounds.specs.Turns.{turn_of, further};
 
 use lent::Node;
 use location::html;
-use names::{Namespace, sets, tag};
-use places::Found;
-use rounds::turns::Round;
+use names::sets::Set;
+use names::{Namespace, tag};
+use records::refusal::Refusal;
 use rounds::{search, turns};
-use state::{Core, Done};
+use stacks::close;
+use state::builder::Builder;
 
 // 4.2: the most rounds.
 const ROUNDS: usize = 8;
@@ -24,144 +26,128 @@ const ROUNDS: usize = 8;
 // The nodes that have to be free: four for each round.
 const ROOM: usize = 32;
 
-// 4 after its first round, r: the count goes on to the end, and there is a round as long as the one before it asks for it.
-fn later_rounds(h: &mut [u16], r: Round, nodes: &mut [u8], list: &mut [u16], name: u16) -> Core
-    requires { Firm (places_of h.old r.core.depth) (places_of list.old r.core.counts.list) r.core.counts.nodes 7 }
-    ensures { (m p q : List ℕ) (x : Context) → full h.new result x nodes.new list.new m p q ≡ further (turn_of r.again (full h.old r.core x nodes.old list.old m p q)) name 7 }
+// 4 after its first round: the count goes on to the end, and there is a round as long as the one before it asks for it.
+fn later_rounds(b: &mut Builder<'_>, first: bool, name: u16)
+    requires { Firm (full_of b.old).stack (full_of b.old).list (full_of b.old).nodes.used 7 }
+    ensures loans { SameLoans b.old b.new }
+    ensures outcome { full_of b.new ≡ further (turn_of first (full_of b.old)) name 7 }
 {
-    let mut c = r.core;
-    let mut again = r.again;
-    let mut left = ROUNDS - 1;
-    while 0 < left {
-        left -= 1;
+    let mut again = first;
+    for _round in 1..ROUNDS {
         if again {
-            let next = turns::one_round(h, c, nodes, list, name, name);
-            c = next.core;
-            again = next.again;
+            again = turns::one_round(b, name, name);
         }
     }
-    c
 }
 
 // 4.
-fn all_rounds(h: &mut [u16], core: Core, nodes: &mut [u8], list: &mut [u16], name: u16) -> Core
-    requires { Firm (places_of h.old core.depth) (places_of list.old core.counts.list) core.counts.nodes 8 }
-    ensures { (m p q : List ℕ) (x : Context) → full h.new result x nodes.new list.new m p q ≡ rounds (full h.old core x nodes.old list.old m p q) name 8 }
+fn all_rounds(b: &mut Builder<'_>, name: u16)
+    requires { Firm (full_of b.old).stack (full_of b.old).list (full_of b.old).nodes.used 8 }
+    ensures loans { SameLoans b.old b.new }
+    ensures outcome { full_of b.new ≡ rounds (full_of b.old) name 8 }
 {
-    let first = turns::one_round(h, core, nodes, list, name, name);
-    later_rounds(h, first, nodes, list, name)
+    let first = turns::one_round(b, name, name);
+    later_rounds(b, first, name);
 }
 
-// 2 to 4, where the current node, top, has the name.
-fn with_current(
-    h: &mut [u16],
-    core: Core,
-    nodes: &mut [u8],
-    list: &mut [u16],
-    name: u16,
-    top: u16,
-) -> Core
-    requires firm { Firm (places_of h.old core.depth) (places_of list.old core.counts.list) core.counts.nodes 8 }
-    requires depth_nonzero { 0 < core.depth }
-    ensures { (m p q : List ℕ) (x : Context) → full h.new result x nodes.new list.new m p q ≡ current_at (place_of (places_of list.old core.counts.list) top) (full h.old core x nodes.old list.old m p q) name }
+// 2: the current node has the name, and is not in the list.
+#[tactic(auto, using(crate::proofs::Laws::unlisted_other, crate::proofs::Laws::unlisted_named, small::proofs::Laws::current_of))]
+fn is_unlisted(b: &Builder<'_>, name: u16) -> bool
+    requires some { 0 < (full_of b.now).stack.size }
+    requires stack { Whole (full_of b.now).stack }
+    requires list { Whole (full_of b.now).list }
+    ensures { result ≡ (is_html (full_of b.now).nodes.mem (current (full_of b.now).stack) name && not (is_some (place_of (full_of b.now).list (current (full_of b.now).stack)))) }
 {
-    let depth = core.depth;
-    match places::find(list, core.counts.list, top) {
-        Found::Nothing => core.with_depth(places::cut_at(h, depth, depth - 1)),
-        Found::At(_) => all_rounds(h, core, nodes, list, name),
-    }
+    let top = b.stack[b.core.depth - 1];
+    html::is_html(b.nodes, Node(top), name)
+        && places::find(b.list, b.core.counts.list, top).is_none()
 }
 
 // 1 to 4, past the refusals.
-fn agency(h: &mut [u16], core: Core, nodes: &mut [u8], list: &mut [u16], name: u16) -> Core
-    requires firm { Firm (places_of h.old core.depth) (places_of list.old core.counts.list) core.counts.nodes 8 }
-    requires depth_nonzero { 0 < core.depth }
-    ensures { (m p q : List ℕ) (x : Context) → full h.new result x nodes.new list.new m p q ≡ def.agency (full h.old core x nodes.old list.old m p q) name }
+#[tactic(auto, using(crate::proofs::Laws::agency_popped, crate::proofs::Laws::agency_rounds))]
+fn agency(b: &mut Builder<'_>, name: u16)
+    requires firm { Firm (full_of b.old).stack (full_of b.old).list (full_of b.old).nodes.used 8 }
+    requires some { 0 < (full_of b.old).stack.size }
+    ensures loans { SameLoans b.old b.new }
+    ensures outcome { full_of b.new ≡ def.agency (full_of b.old) name }
 {
-    let i = core.depth - 1;
-    let top = h[i];
-    if html::is_html(nodes, Node(top), name) {
-        return with_current(h, core, nodes, list, name, top);
-    }
-    all_rounds(h, core, nodes, list, name)
-}
-
-// 8
-pub fn adoption_agency(
-    h: &mut [u16],
-    core: Core,
-    nodes: &mut [u8],
-    list: &mut [u16],
-    name: u16,
-) -> Done
-    requires firm { Firm (places_of h.old core.depth) (places_of list.old core.counts.list) core.counts.nodes 0 }
-    requires depth_nonzero { 0 < core.depth }
-    ensures { (m p q : List ℕ) (x : Context) → result_of result.answer (full h.new result.core x nodes.new list.new m p q) ≡ adoption (full h.old core x nodes.old list.old m p q) name }
-{
-    if !sets::is_formatting(Namespace::HTML, name) {
-        return Done {
-            answer: 2,
-            core: core,
-        };
-    }
-    if lent::room::free_nodes(nodes, core.counts.nodes) < ROOM {
-        return Done {
-            answer: 4,
-            core: core,
-        };
-    }
-    Done {
-        answer: 0,
-        core: agency(h, core, nodes, list, name),
+    if is_unlisted(b, name) {
+        let top = b.core.depth - 1;
+        close::pop_from(b, top);
+    } else {
+        all_rounds(b, name);
     }
 }
 
-// n leaves stack and list, if it is there.
-fn leave_both(h: &mut [u16], core: Core, list: &mut [u16], n: u16) -> Core
-    requires { (core.depth ≤ length h.old) × (core.counts.list ≤ length list.old) }
-    ensures { (a m p q : List ℕ) (x : Context) → full h.new result x a list.new m p q ≡ leaves (full h.old core x a list.old m p q) n }
+// Fewer nodes are free than the agency may make.
+#[tactic(auto, unfolding(standard::specs::Adoption::few_nodes))]
+fn has_few_nodes(b: &Builder<'_>) -> bool
+    ensures { result ≡ few_nodes (full_of b.now) }
 {
-    let size = places::leave(h, core.depth, n);
-    let fewer = places::leave(list, core.counts.list, n);
-    core.with_depth(size).with_list(fewer)
+    lent::room::free_nodes(b.nodes, b.core.counts.nodes) < ROOM
+}
+
+/// Call 8, the adoption agency algorithm for an end tag: 13.2.6.4.7. `Unknown` where `name` is no formatting name, `NodesFull` where fewer
+/// than 32 nodes are free.
+#[tactic(auto, using(crate::proofs::Laws::adoption_bad, crate::proofs::Laws::adoption_few, crate::proofs::Laws::adoption_done))]
+pub fn adoption_agency(b: &mut Builder<'_>, name: u16) -> Result<(), Refusal>
+    requires firm { Firm (full_of b.old).stack (full_of b.old).list (full_of b.old).nodes.used 0 }
+    requires some { 0 < (full_of b.old).stack.size }
+    ensures loans { SameLoans b.old b.new }
+    ensures outcome { result_of (answer_number result) (full_of b.new) ≡ adoption (full_of b.old) name }
+{
+    if !Set::Formatting.has(Namespace::HTML, name) {
+        return Err(Refusal::Unknown);
+    }
+    if has_few_nodes(b) {
+        return Err(Refusal::NodesFull);
+    }
+    agency(b, name);
+    Ok(())
+}
+
+// n leaves stack and list, if it is there: by its number, since after the rounds its places are not known.
+#[tactic(auto, using(adopted::proofs::WalkLaws::both_put), unfolding(standard::specs::Adoption::leaves))]
+fn leave(b: &mut Builder<'_>, n: u16)
+    requires stack { Whole (full_of b.old).stack }
+    requires list { Whole (full_of b.old).list }
+    ensures loans { SameLoans b.old b.new }
+    ensures outcome { full_of b.new ≡ leaves (full_of b.old) n }
+{
+    let size = places::leave(b.stack, b.core.depth, n);
+    let fewer = places::leave(b.list, b.core.counts.list, n);
+    b.core = b.core.with_depth(size).with_list(fewer);
 }
 
 // 9 for the `a` at place j of the list.
-fn handle_entry(h: &mut [u16], core: Core, nodes: &mut [u8], list: &mut [u16], j: usize) -> Done
-    requires firm { Firm (places_of h.old core.depth) (places_of list.old core.counts.list) core.counts.nodes 0 }
-    requires depth_nonzero { (0 < core.depth) × (j < core.counts.list) }
-    ensures { (m p q : List ℕ) (x : Context) → result_of result.answer (full h.new result.core x nodes.new list.new m p q) ≡ misnested_at (At j) (full h.old core x nodes.old list.old m p q) }
+#[tactic(auto, using(crate::proofs::Laws::misnested_few, crate::proofs::Laws::misnested_done, places::proofs::Laws::at_of))]
+fn handle_entry(b: &mut Builder<'_>, j: usize) -> Result<(), Refusal>
+    requires firm { Firm (full_of b.old).stack (full_of b.old).list (full_of b.old).nodes.used 0 }
+    requires some { 0 < (full_of b.old).stack.size }
+    requires listed { j < (full_of b.old).list.size }
+    ensures loans { SameLoans b.old b.new }
+    ensures outcome { result_of (answer_number result) (full_of b.new) ≡ misnested_at (Some j) (full_of b.old) }
 {
-    if lent::room::free_nodes(nodes, core.counts.nodes) < ROOM {
-        return Done {
-            answer: 4,
-            core: core,
-        };
+    if has_few_nodes(b) {
+        return Err(Refusal::NodesFull);
     }
-    let n = list[j];
-    let c = agency(h, core, nodes, list, tag::A);
-    Done {
-        answer: 0,
-        core: leave_both(h, c, list, n),
-    }
+    let n = b.list[j];
+    agency(b, tag::A);
+    leave(b, n);
+    Ok(())
 }
 
-// 9
-pub fn handle_misnested_a_tags(
-    h: &mut [u16],
-    core: Core,
-    nodes: &mut [u8],
-    list: &mut [u16],
-) -> Done
-    requires firm { Firm (places_of h.old core.depth) (places_of list.old core.counts.list) core.counts.nodes 0 }
-    requires depth_nonzero { 0 < core.depth }
-    ensures { (m p q : List ℕ) (x : Context) → result_of result.answer (full h.new result.core x nodes.new list.new m p q) ≡ misnested (full h.old core x nodes.old list.old m p q) }
+/// Call 9, a start tag whose tag name is "a": 13.2.6.4.7. Where the list has an `a` after its last marker, the agency runs for it, and it
+/// leaves list and stack. `NodesFull` where there is one and fewer than 32 nodes are free.
+#[tactic(auto, using(crate::proofs::Laws::misnested_none, crate::proofs::Laws::misnested_at_lem, rounds::proofs::SearchLaws::entry_lt))]
+pub fn handle_misnested_a_tags(b: &mut Builder<'_>) -> Result<(), Refusal>
+    requires firm { Firm (full_of b.old).stack (full_of b.old).list (full_of b.old).nodes.used 0 }
+    requires some { 0 < (full_of b.old).stack.size }
+    ensures loans { SameLoans b.old b.new }
+    ensures outcome { result_of (answer_number result) (full_of b.new) ≡ misnested (full_of b.old) }
 {
-    match search::entry(nodes, list, core.counts.list, tag::A) {
-        Found::Nothing => Done {
-            answer: 0,
-            core: core,
-        },
-        Found::At(j) => handle_entry(h, core, nodes, list, j),
+    match search::entry(b, tag::A) {
+        None => Ok(()),
+        Some(j) => handle_entry(b, j),
     }
 }

@@ -1,6 +1,6 @@
 -- The cases of the definitions that branch, as the code meets them: x is the number that was read, and e says what it is.
 -- Assumes nothing.
-use Rattle.std.proofs.Common.{ℕ, zero, suc, ◌-◌, ◌<◌, ◌≤◌, ◌≡◌, refl, ◌∙◌, List, eq-eqb, ne_eqb, arith, sub-one}
+use Rattle.std.proofs.Common.{ℕ, zero, suc, ◌≤◌, ◌≡◌, refl, ◌∙◌, List, eq-eqb, ne_eqb, arith}
 use Rattle.lent.specs.Mem.{field, put_field, PARENT, PREV, NEXT, FIRST, LAST}
 use Rattle.arena.specs.Links.{detached, unlinked, reparented, moved, spliced}
 
@@ -32,8 +32,8 @@ unfolding reparented
 reparented_zero m n p zero h = refl
 reparented_zero m n p (suc k) h = absurd (omega arith)
 
-pub reparented_step : (m : List ℕ) (n p k : ℕ) → 0 < k → (n ≡ 0 → ⊥)
-    → reparented m n p k ≡ reparented (put_field m n PARENT p) (field (put_field m n PARENT p) n NEXT) p (k - 1)
+pub reparented_step : (m : List ℕ) (n p k : ℕ) {j : ℕ} → suc j ≡ k → (n ≡ 0 → ⊥)
+    → reparented m n p k ≡ reparented (put_field m n PARENT p) (field (put_field m n PARENT p) n NEXT) p j
 unfolding reparented
-reparented_step m n p zero lt h = absurd (omega arith)
-reparented_step m n p (suc k) lt h = rw (ne_eqb n 0 h, sub-one)
+reparented_step m n p zero e h = absurd (omega arith)
+reparented_step m n p (suc k) {j} e h = let z : k ≡ j = omega arith in rw (ne_eqb n 0 h, z)

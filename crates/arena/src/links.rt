@@ -4,7 +4,8 @@ ghost use Rattle.arena.specs.Links.{appended, detached, unlinked, inserted, repa
 
 use lent::Node;
 
-// c, which has no parent, becomes the last child of p.
+/// c, which has no parent, becomes the last child of p.
+#[tactic(auto, unfolding(crate::specs::Links::appended))]
 pub fn append(mem: &mut [u8], p: Node, c: Node)
     ensures { mem.new ≡ appended mem.old p.0 c.0 }
 {
@@ -17,6 +18,7 @@ pub fn append(mem: &mut [u8], p: Node, c: Node)
 }
 
 // n, a child of p between prev and next, leaves its parent.
+#[tactic(auto, unfolding(crate::specs::Links::unlinked))]
 fn unlink(mem: &mut [u8], n: Node, p: Node, prev: Node, next: Node)
     ensures { mem.new ≡ unlinked mem.old n.0 p.0 prev.0 next.0 }
 {
@@ -27,7 +29,8 @@ fn unlink(mem: &mut [u8], n: Node, p: Node, prev: Node, next: Node)
     lent::put(mem, n, Node::NEXT, Node::NONE);
 }
 
-// n leaves its parent, if it has one.
+/// n leaves its parent, if it has one.
+#[tactic(auto, unfolding(crate::specs::Links::detached))]
 pub fn detach(mem: &mut [u8], n: Node)
     ensures { mem.new ≡ detached mem.old n.0 }
 {
@@ -40,7 +43,8 @@ pub fn detach(mem: &mut [u8], n: Node)
     unlink(mem, n, Node(p), Node(prev), Node(next));
 }
 
-// c, which has no parent, comes right before s, which has one.
+/// c, which has no parent, comes right before s, which has one.
+#[tactic(auto, unfolding(crate::specs::Links::inserted))]
 pub fn insert_before(mem: &mut [u8], s: Node, c: Node)
     ensures { mem.new ≡ inserted mem.old s.0 c.0 }
 {
@@ -54,22 +58,22 @@ pub fn insert_before(mem: &mut [u8], s: Node, c: Node)
 }
 
 // The parent of n and of the siblings after it becomes p: of k nodes at most.
+#[tactic(auto, using(crate::proofs::Laws::reparented_none, crate::proofs::Laws::reparented_zero, crate::proofs::Laws::reparented_step))]
 fn reparent(mem: &mut [u8], n: u16, p: Node, k: usize)
     ensures { mem.new ≡ reparented mem.old n p.0 k }
 {
     let mut at = n;
-    let mut left = k;
-    while 0 < left {
+    for _ in 0..k {
         if at == Node::NONE {
             return;
         }
         lent::put(mem, Node(at), Node::PARENT, p.0);
         at = lent::get(mem, Node(at), Node::NEXT);
-        left -= 1;
     }
 }
 
 // The children of a, of which first and last are the ends, become the last children of b, whose last child is end.
+#[tactic(auto, unfolding(crate::specs::Links::spliced))]
 fn splice(mem: &mut [u8], a: Node, b: Node, first: Node, last: Node, end: Node)
     ensures { mem.new ≡ spliced mem.old a.0 b.0 first.0 last.0 end.0 }
 {
@@ -81,7 +85,8 @@ fn splice(mem: &mut [u8], a: Node, b: Node, first: Node, last: Node, end: Node)
     lent::put(mem, b, Node::LAST, last.0);
 }
 
-// The children of a become the last children of b, in order.
+/// The children of a become the last children of b, in order.
+#[tactic(auto, unfolding(crate::specs::Links::moved))]
 pub fn move_children(mem: &mut [u8], a: Node, b: Node)
     ensures { mem.new ≡ moved mem.old a.0 b.0 }
 {

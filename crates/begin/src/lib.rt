@@ -1,90 +1,80 @@
 #![tactic(auto)]
 // Begin: a new state, whatever the lent memory holds.
-ghost use Rattle.std.specs.Prelude.{◌≡◌, set};
+ghost use Rattle.std.specs.Prelude.{◌≡◌, set, Some};
+ghost use Rattle.records.specs.Refusal.{answer_number, value_or};
+ghost use Rattle.state.specs.declared.State.{State};
 ghost use Rattle.standard.specs.Begin.{bad_mark, bad_context, is_template_context, first_modes, begin_answer, begin_nodes, begin_modes, begin_state, begun, begin_of};
 
 use lent::Node;
 use makers::make::Tag;
 use names::{Namespace, tag};
+use records::refusal::Refusal;
 use state::{Context, Counts, Flags, Stack, State};
-
-// A call's answer, and the state after it.
-#[derive(Clone, Copy)]
-pub struct Called {
-    pub answer: usize,
-    pub state: State,
-}
 
 // The number of the mode In template.
 const IN_TEMPLATE: u16 = 16;
 
+#[tactic(auto, unfolding(standard::specs::Begin::bad_mark))]
 fn bad_mark(ns: u16, name: u16, mark: u16) -> bool
     ensures { result ≡ bad_mark ns name mark }
 {
-    if mark == 0 {
-        return false;
+    match mark {
+        0 => false,
+        1 => !insertion::is_markable(ns, name),
+        _ => true,
     }
-    if mark == 1 {
-        return !insertion::is_markable(ns, name);
-    }
-    true
 }
 
-fn bad_tag(ns: u16, name: u16, mark: u16) -> bool
-    ensures { result ≡ bad_context (Context.Element ns name mark) }
-{
-    if Namespace::SVG < ns {
-        return true;
-    }
-    if !names::is_name(name) {
-        return true;
-    }
-    bad_mark(ns, name, mark)
-}
-
-fn bad_context(context: Context) -> bool
+#[tactic(auto, using(std::proofs::lemmas::Grind::common_steps), unfolding(standard::specs::Begin::bad_context))]
+fn bad_context(context: Option<Context>) -> bool
     ensures { result ≡ bad_context context }
 {
     match context {
-        Context::None => false,
-        Context::Element { space, name, mark } => bad_tag(space, name, mark),
+        None => false,
+        Some(Context { space, name, mark }) => Namespace::SVG < space
+            || !names::is_name(name)
+            || bad_mark(space, name, mark),
     }
 }
 
-fn is_template(ns: u16, name: u16, mark: u16) -> bool
-    ensures { result ≡ is_template_context (Context.Element ns name mark) }
-{
-    ns == Namespace::HTML && name == tag::TEMPLATE
-}
-
-fn is_template_context(context: Context) -> bool
+#[tactic(auto, unfolding(standard::specs::Begin::is_template_context))]
+fn is_template_context(context: Option<Context>) -> bool
     ensures { result ≡ is_template_context context }
 {
     match context {
-        Context::None => false,
-        Context::Element { space, name, mark } => is_template(space, name, mark),
+        None => false,
+        Some(
+            Context {
+                space,
+                name,
+                mark: _,
+            },
+        ) => space == Namespace::HTML && name == tag::TEMPLATE,
     }
 }
 
-fn first_modes(context: Context) -> usize
+#[tactic(auto, unfolding(standard::specs::Begin::first_modes))]
+fn first_modes(context: Option<Context>) -> usize
     ensures { result ≡ first_modes context }
 {
-    if is_template_context(context) { 1 } else { 0 }
+    usize::from(is_template_context(context))
 }
 
-fn answer(nodes: &[u8], modes: &[u16], context: Context) -> usize
-    ensures { result ≡ begin_answer nodes.now modes.now context }
+// Whether there is room for it, and a context that is known.
+#[tactic(auto, unfolding(standard::specs::Begin::begin_answer))]
+fn test(nodes: &[u8], modes: &[u16], context: Option<Context>) -> Result<(), Refusal>
+    ensures { answer_number result ≡ begin_answer nodes.now modes.now context }
 {
     if bad_context(context) {
-        return 2;
+        return Err(Refusal::Unknown);
     }
     if lent::room::free_nodes(nodes, 0) < 2 {
-        return 4;
+        return Err(Refusal::NodesFull);
     }
-    if lent::least(modes.len(), Counts::MODES) < first_modes(context) {
-        return 6;
+    if modes.len().min(Counts::MODES) < first_modes(context) {
+        return Err(Refusal::PlacesFull);
     }
-    0
+    Ok(())
 }
 
 // The document and its root.
@@ -103,7 +93,7 @@ fn begin_nodes(nodes: &mut [u8])
     arena::links::append(nodes, Node(Node::DOCUMENT), Node(Node::ROOT));
 }
 
-fn begin_modes(modes: &mut [u16], context: Context)
+fn begin_modes(modes: &mut [u16], context: Option<Context>)
     ensures { modes.new ≡ begin_modes modes.old context }
 {
     if is_template_context(context) {
@@ -115,12 +105,12 @@ fn begin_modes(modes: &mut [u16], context: Context)
 fn put_first(modes: &mut [u16], v: u16)
     ensures { modes.new ≡ set modes.old 0 v }
 {
-    if 0 < modes.len() {
-        modes[0] = v;
+    if let Some(first) = modes.first_mut() {
+        *first = v;
     }
 }
 
-fn begin_state(context: Context) -> State
+fn begin_state(context: Option<Context>) -> State
     ensures { result ≡ begin_state context }
 {
     let count = first_modes(context);
@@ -143,21 +133,19 @@ fn begin_state(context: Context) -> State
     }
 }
 
-// The record and what was lent are kept where it is refused.
-pub fn begin(state: State, nodes: &mut [u8], modes: &mut [u16], context: Context) -> Called
-    ensures { begun result.answer result.state nodes.new modes.new ≡ begin_of state nodes.old modes.old context }
+#[tactic(auto, using(crate::proofs::Laws::begin_refused, crate::proofs::Laws::begin_done))]
+/// A new document in lent memory, whatever it holds: 13.2.4 and, with a context, 13.4. The record of a fresh state. `Unknown` for a context that no
+/// element may be, `NodesFull` without room for the document and its root, `PlacesFull` where a template's mode finds no place; what was lent is
+/// kept then.
+pub fn begin(
+    nodes: &mut [u8],
+    modes: &mut [u16],
+    context: Option<Context>,
+) -> Result<State, Refusal>
+    ensures { (st : State) → begun (answer_number result) (value_or result st) nodes.new modes.new ≡ begin_of st nodes.old modes.old context }
 {
-    let k = answer(nodes, modes, context);
-    if k != 0 {
-        return Called {
-            answer: k,
-            state: state,
-        };
-    }
+    test(nodes, modes, context)?;
     begin_nodes(nodes);
     begin_modes(modes, context);
-    Called {
-        answer: 0,
-        state: begin_state(context),
-    }
+    Ok(begin_state(context))
 }

@@ -1,266 +1,146 @@
 #![tactic(auto)]
 // Runs of records, and single calls given as a record. The state is checked first, once.
-ghost use Rattle.std.specs.Prelude.{◌≡◌, ◌-◌};
+ghost use Rattle.std.specs.Prelude.{◌≡◌, ◌-◌, IfOk};
+ghost use Rattle.records.specs.Record.{item_at};
+ghost use Rattle.records.specs.Refusal.{answer_number};
 ghost use Rattle.sound.specs.State.{SoundFull};
-ghost use Rattle.state.specs.Full.{full, result_of, refused};
-ghost use Rattle.standard.specs.Run.{ran, run_of};
-ghost use Rattle.standard.specs.Run as def;
-ghost use Rattle.edge.specs.Public.{whole, Checked};
+ghost use Rattle.state.specs.Builder.{SameLoans, full_of};
+ghost use Rattle.state.specs.Full.{result_of, refused};
+ghost use Rattle.state.specs.Lent.{SameMemory};
+ghost use Rattle.standard.specs.Run.{ran, run_of, on_single, single};
+ghost use Rattle.edge.specs.Public.{whole_in, Checked};
+ghost use Rattle.calls.specs.Public.{Follows};
 
-use records::Item;
-use state::{Context, Core, Done, State};
+use records::refusal::Refusal;
+use state::State;
+use state::builder::Builder;
+use state::lent::Lent;
 
-// A run's answer, how many records were done, and the `Core` after it.
-#[derive(Clone, Copy)]
-pub struct Went {
-    pub answer: usize,
-    pub done: usize,
-    pub core: Core,
-}
-
-// A run that stops with this answer, after so many records.
-fn stopped(answer: usize, done: usize, core: Core) -> Went
-    ensures { (result.answer ≡ answer) × (result.done ≡ done) × (result.core ≡ core) }
-{
-    Went {
-        answer: answer,
-        done: done,
-        core: core,
-    }
-}
-
-// One record after the other, until one is refused.
-fn run_all(
-    h: &mut [u16],
-    core: Core,
-    context: Context,
-    nodes: &mut [u8],
-    list: &mut [u16],
-    modes: &mut [u16],
-    pieces: &mut [u8],
-    pairs: &mut [u8],
-    input: &[u8],
-) -> Went
-    requires { SoundFull (full h.old core context nodes.old list.old modes.old pieces.old pairs.old) }
-    ensures { ran result.answer result.done (full h.new result.core context nodes.new list.new modes.new pieces.new pairs.new) ≡ run_of input.now (full h.old core context nodes.old list.old modes.old pieces.old pairs.old) }
-{
-    let mut st = core;
-    let mut at: usize = 0;
-    let mut n: usize = 0;
-    while at < input.len() {
-        match records::item_at(input, at) {
-            Item::Call(r, next) => {
-                let d = dispatch::call(h, st, nodes, list, modes, pieces, pairs, input, r);
-                st = d.core;
-                if d.answer != 0 {
-                    return stopped(d.answer, n, st);
-                }
-                at = next;
-                n += 1;
-            }
-            Item::Unknown => {
-                return stopped(2, n, st);
-            }
-            Item::Bad => {
-                return stopped(9, n, st);
-            }
-        }
-    }
-    stopped(0, n, st)
-}
-
-// The same on any state: the check comes first.
-fn run_checked(
-    h: &mut [u16],
-    core: Core,
-    context: Context,
-    nodes: &mut [u8],
-    list: &mut [u16],
-    modes: &mut [u16],
-    pieces: &mut [u8],
-    pairs: &mut [u8],
-    input: &[u8],
-) -> Went
-    ensures { Checked (SoundFull (full h.old core context nodes.old list.old modes.old pieces.old pairs.old)) (ran result.answer result.done (full h.new result.core context nodes.new list.new modes.new pieces.new pairs.new)) (run_of input.now (full h.old core context nodes.old list.old modes.old pieces.old pairs.old)) (ran 1 0 (full h.old core context nodes.old list.old modes.old pieces.old pairs.old)) }
-{
-    if !edge::check(h, core, context, nodes, list, modes, pieces, pairs) {
-        return Went {
-            answer: 1,
-            done: 0,
-            core: core,
-        };
-    }
-    run_all(h, core, context, nodes, list, modes, pieces, pairs, input)
-}
-
-// The same with the stack's places as the record has them.
-fn run_on(
-    h: &mut [u16; 512],
-    core: Core,
-    context: Context,
-    nodes: &mut [u8],
-    list: &mut [u16],
-    modes: &mut [u16],
-    pieces: &mut [u8],
-    pairs: &mut [u8],
-    input: &[u8],
-) -> Went
-    ensures { Checked (SoundFull (full h.old core context nodes.old list.old modes.old pieces.old pairs.old)) (ran result.answer result.done (full h.new result.core context nodes.new list.new modes.new pieces.new pairs.new)) (run_of input.now (full h.old core context nodes.old list.old modes.old pieces.old pairs.old)) (ran 1 0 (full h.old core context nodes.old list.old modes.old pieces.old pairs.old)) }
-{
-    run_checked(h, core, context, nodes, list, modes, pieces, pairs, input)
-}
-
-// A run's answer, how many records were done, and the state after it.
+/// What a run gives: whether it came to the end of its input or what refused it, how many records were done, and the record after them.
 #[derive(Clone, Copy)]
 pub struct Ran {
-    pub answer: usize,
+    pub answer: Result<(), Refusal>,
     pub done: usize,
     pub state: State,
 }
 
-pub fn run(
-    state: State,
-    nodes: &mut [u8],
-    list: &mut [u16],
-    modes: &mut [u16],
-    pieces: &mut [u8],
-    pairs: &mut [u8],
-    input: &[u8],
-) -> Ran
-    ensures { Checked (SoundFull (whole state nodes.old list.old modes.old pieces.old pairs.old)) (ran result.answer result.done (whole result.state nodes.new list.new modes.new pieces.new pairs.new)) (run_of input.now (whole state nodes.old list.old modes.old pieces.old pairs.old)) (ran 1 0 (whole state nodes.old list.old modes.old pieces.old pairs.old)) }
-{
-    let mut s = state;
-    let core = s.core();
-    let context = s.context;
-    let w = run_on(
-        &mut s.stack.handles,
-        core,
-        context,
-        nodes,
-        list,
-        modes,
-        pieces,
-        pairs,
-        input,
-    );
-    Ran {
-        answer: w.answer,
-        done: w.done,
-        state: s.with_core(w.core),
-    }
-}
-
-// A single call, given as the record at the front of the input, on a sound state.
-fn call_at(
-    h: &mut [u16],
-    core: Core,
-    context: Context,
-    nodes: &mut [u8],
-    list: &mut [u16],
-    modes: &mut [u16],
-    pieces: &mut [u8],
-    pairs: &mut [u8],
-    input: &[u8],
-) -> Done
-    requires { SoundFull (full h.old core context nodes.old list.old modes.old pieces.old pairs.old) }
-    ensures { result_of result.answer (full h.new result.core context nodes.new list.new modes.new pieces.new pairs.new) ≡ def.single input.now (full h.old core context nodes.old list.old modes.old pieces.old pairs.old) }
-{
-    match records::item_at(input, 0) {
-        Item::Call(r, _) => dispatch::call(h, core, nodes, list, modes, pieces, pairs, input, r),
-        Item::Unknown => Done {
-            answer: 2,
-            core: core,
-        },
-        Item::Bad => Done {
-            answer: 9,
-            core: core,
-        },
-    }
-}
-
-fn call_checked(
-    h: &mut [u16],
-    core: Core,
-    context: Context,
-    nodes: &mut [u8],
-    list: &mut [u16],
-    modes: &mut [u16],
-    pieces: &mut [u8],
-    pairs: &mut [u8],
-    input: &[u8],
-) -> Done
-    ensures { Checked (SoundFull (full h.old core context nodes.old list.old modes.old pieces.old pairs.old)) (result_of result.answer (full h.new result.core context nodes.new list.new modes.new pieces.new pairs.new)) (def.single input.now (full h.old core context nodes.old list.old modes.old pieces.old pairs.old)) (refused 1 (full h.old core context nodes.old list.old modes.old pieces.old pairs.old)) }
-{
-    if !edge::check(h, core, context, nodes, list, modes, pieces, pairs) {
-        return Done {
-            answer: 1,
-            core: core,
-        };
-    }
-    call_at(h, core, context, nodes, list, modes, pieces, pairs, input)
-}
-
-fn call_on(
-    h: &mut [u16; 512],
-    core: Core,
-    context: Context,
-    nodes: &mut [u8],
-    list: &mut [u16],
-    modes: &mut [u16],
-    pieces: &mut [u8],
-    pairs: &mut [u8],
-    input: &[u8],
-) -> Done
-    ensures { Checked (SoundFull (full h.old core context nodes.old list.old modes.old pieces.old pairs.old)) (result_of result.answer (full h.new result.core context nodes.new list.new modes.new pieces.new pairs.new)) (def.single input.now (full h.old core context nodes.old list.old modes.old pieces.old pairs.old)) (refused 1 (full h.old core context nodes.old list.old modes.old pieces.old pairs.old)) }
-{
-    call_checked(h, core, context, nodes, list, modes, pieces, pairs, input)
-}
-
-// A single call's answer, how many nodes it took (an adoption reports them), and the state after it.
+/// What a single call gives: whether it was done or what refused it, how many nodes it took (an adoption reports them), and the record after it.
 #[derive(Clone, Copy)]
 pub struct Single {
-    pub answer: usize,
+    pub answer: Result<(), Refusal>,
     pub taken: usize,
     pub state: State,
 }
 
-fn minus(a: usize, b: usize) -> usize
-    ensures { result ≡ a - b }
+#[tactic(auto, unfolding(standard::specs::Run::on_single))]
+// The call whose record is at a place, on a sound state: where what follows it starts.
+fn call_at(b: &mut Builder<'_>, input: &[u8], at: usize) -> Result<usize, Refusal>
+    requires { SoundFull (full_of b.old) }
+    ensures loans { SameLoans b.old b.new }
+    ensures outcome { result_of (answer_number result) (full_of b.new) ≡ on_single (item_at input.now at) input.now (full_of b.old) }
+    ensures next { IfOk result (λ next. Follows input.now at next) }
 {
-    if b < a { a - b } else { 0 }
+    let (record, next) = records::item_at(input, at)?;
+    dispatch::call(b, input, record)?;
+    Ok(next)
 }
 
-// A single call, given as a record: the state is checked first. What follows the record is not looked at.
-pub fn call(
-    state: State,
-    nodes: &mut [u8],
-    list: &mut [u16],
-    modes: &mut [u16],
-    pieces: &mut [u8],
-    pairs: &mut [u8],
-    input: &[u8],
-) -> Single
-    ensures outcome { Checked (SoundFull (whole state nodes.old list.old modes.old pieces.old pairs.old)) (result_of result.answer (whole result.state nodes.new list.new modes.new pieces.new pairs.new)) (def.single input.now (whole state nodes.old list.old modes.old pieces.old pairs.old)) (refused 1 (whole state nodes.old list.old modes.old pieces.old pairs.old)) }
+// One record after the other, until one is refused; and how many were done.
+fn run_all(b: &mut Builder<'_>, input: &[u8]) -> (Result<(), Refusal>, usize)
+    requires { SoundFull (full_of b.old) }
+    ensures loans { SameLoans b.old b.new }
+    ensures outcome { ran (answer_number result.0) result.1 (full_of b.new) ≡ run_of input.now (full_of b.old) }
+{
+    let mut at = 0;
+    let mut done = 0;
+    // Each record is a byte at least; where the next one begins is read.
+    while at < input.len() {
+        match call_at(b, input, at) {
+            Ok(next) => at = next,
+            Err(e) => return (Err(e), done),
+        }
+        done += 1;
+    }
+    (Ok(()), done)
+}
+
+// The same on any state: the check comes first. Beside call_checked: one function over a closure would have to say again in its contract what the closure leaves.
+fn run_checked(b: &mut Builder<'_>, input: &[u8]) -> (Result<(), Refusal>, usize)
+    ensures loans { SameLoans b.old b.new }
+    ensures outcome { Checked (SoundFull (full_of b.old)) (ran (answer_number result.0) result.1 (full_of b.new)) (run_of input.now (full_of b.old)) (ran 1 0 (full_of b.old)) }
+{
+    if !edge::check(b) {
+        return (Err(Refusal::Unsound), 0);
+    }
+    run_all(b, input)
+}
+
+#[tactic(auto, unfolding(standard::specs::Run::single))]
+fn call_checked(b: &mut Builder<'_>, input: &[u8]) -> Result<(), Refusal>
+    ensures loans { SameLoans b.old b.new }
+    ensures outcome { Checked (SoundFull (full_of b.old)) (result_of (answer_number result) (full_of b.new)) (single input.now (full_of b.old)) (refused 1 (full_of b.old)) }
+{
+    if !edge::check(b) {
+        return Err(Refusal::Unsound);
+    }
+    call_at(b, input, 0)?;
+    Ok(())
+}
+
+#[tactic(auto, unfolding(edge::specs::Public::whole, state::specs::Fields::core_of, state::specs::Fields::state_of))]
+/// A run: the records of `input` one after the other, until one is refused; the calls before it stand. `Unsound` on a state that the check refuses, and else what
+/// the record is refused with: `BadRecord` where it is cut short or badly written.
+pub fn run(state: State, lent: &mut Lent<'_>, input: &[u8]) -> Ran
+    ensures memory { SameMemory lent.old lent.new }
+    ensures outcome { Checked (SoundFull (whole_in state lent.old)) (ran (answer_number result.answer) result.done (whole_in result.state lent.new)) (run_of input.now (whole_in state lent.old)) (ran 1 0 (whole_in state lent.old)) }
+{
+    // Also in `call`: a function over a closure that works on the builder would have to say again in its contract what the closure leaves.
+    let mut handles = state.stack.handles;
+    let mut builder = Builder {
+        core: state.core(),
+        context: state.context,
+        stack: &mut handles,
+        list: &mut *lent.list,
+        modes: &mut *lent.modes,
+        nodes: &mut *lent.nodes,
+        pieces: &mut *lent.pieces,
+        pairs: &mut *lent.pairs,
+    };
+    let (answer, done) = run_checked(&mut builder, input);
+    let core = builder.core;
+    let context = builder.context;
+    Ran {
+        answer,
+        done,
+        state: State::of(handles, core, context),
+    }
+}
+
+#[tactic(auto, unfolding(edge::specs::Public::whole, state::specs::Fields::core_of, state::specs::Fields::state_of))]
+/// A single call, given as the record at the front of `input`; what follows the record is not looked at. Refused as a record of a run is; the record and what
+/// was lent stay then.
+pub fn call(state: State, lent: &mut Lent<'_>, input: &[u8]) -> Single
+    ensures memory { SameMemory lent.old lent.new }
+    ensures outcome { Checked (SoundFull (whole_in state lent.old)) (result_of (answer_number result.answer) (whole_in result.state lent.new)) (single input.now (whole_in state lent.old)) (refused 1 (whole_in state lent.old)) }
     ensures taken { result.taken ≡ result.state.counts.nodes - state.counts.nodes }
 {
-    let mut s = state;
-    let core = s.core();
-    let context = s.context;
-    let before = core.counts.nodes;
-    let d = call_on(
-        &mut s.stack.handles,
-        core,
-        context,
-        nodes,
-        list,
-        modes,
-        pieces,
-        pairs,
-        input,
-    );
+    let mut handles = state.stack.handles;
+    let mut builder = Builder {
+        core: state.core(),
+        context: state.context,
+        stack: &mut handles,
+        list: &mut *lent.list,
+        modes: &mut *lent.modes,
+        nodes: &mut *lent.nodes,
+        pieces: &mut *lent.pieces,
+        pairs: &mut *lent.pairs,
+    };
+    let answer = call_checked(&mut builder, input);
+    let core = builder.core;
+    let context = builder.context;
     Single {
-        answer: d.answer,
-        taken: minus(d.core.counts.nodes, before),
-        state: s.with_core(d.core),
+        answer,
+        taken: core.counts.nodes.saturating_sub(state.counts.nodes),
+        state: State::of(handles, core, context),
     }
 }

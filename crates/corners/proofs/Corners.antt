@@ -47,7 +47,7 @@ infixr 20 ◌and◌
 
 -- each row is right; all that the rows reach is unfolded, so that they compute
 pub corners : Right rows
-unfolding formatting special default_scope foster_targets in_table is_name names quoted get16 put16 slots inside place load store link up second number_at skip_at count_of pairCount number_if pairs_at arguments_at item_at appended unlinked detached inserted reparented spliced moved bare_links bare_rest bare tagged tag_of is_template plain nodes_of element copied document piece text piece_after free_nodes free_pieces free_pairs places_of at without pushed within swapped cut down first_with last_with place_of after_at exchanged_at exchanged left_at core_of with_stack with_list with_nodes with_pieces with_pairs with_flags is_html is_foster_target current end_of before_table table_place template_or_table foster_at is_foster_stop foster_place appropriate_place attached sibling_before text_before pairs_in fine stored usual_place is_markable bad_tag bad_pairs new_tag element_in pushed_if element_done element_room inserted_element joined_text new_text text_at inserted_text room marked popped fostered is_of in_scope shorter after pairs_of same_pairs same_tag how_many after_marker surplus spared listed created_room created_for bad_formatting created entry_of furthest_of gone left_stack left_both renewed renewed_in renewed_at turn_at turned inner placed_at rehung at_mark relisted finished started adopted block_at blocked scope_at scoped open_at opened entry_at rounded rounds current_at agency few_nodes adoption middle_step low_step high_step step unless_refused on_item run_for run_from run_of bad_mark bad_context is_template_context first_modes begin_answer begin_nodes begin_modes begin_state whole expanded context_or standing mode_for mode_at onward walked given reset_mode digit_at digits indent text_number name_of space_of element_of further text_of node_of part_of level_of line_of level_down first_line extra_lines first_inside beside line_beside line_inside next_line lines_from tree_of seen_after lent begin_gives begun encoded_by encoded encoded_all bytes_of Still Right case_adopted case_printed few_free five_deep unlisted not_open out_of_scope fourth marker_between one_text in_td in_head in_html rows
+unfolding formatting special default_scope foster_targets in_table is_name names quoted get16 put16 slots inside place load store link up second number_at skip_at count_of pairCount number_if pairs_at arguments_at item_at appended unlinked detached inserted reparented spliced moved bare_links bare_rest bare tagged tag_of is_template plain nodes_of element copied document piece text piece_after free_nodes free_pieces free_pairs at without pushed within swapped cut down first_with last_with place_of after_at exchanged_at exchanged left_at core_of with_stack with_list with_nodes with_pieces with_pairs with_flags is_html is_foster_target current end_of before_table table_place template_or_table foster_at is_foster_stop foster_place appropriate_place attached sibling_before text_before pairs_in fine stored usual_place is_markable bad_tag bad_pairs new_tag element_in pushed_if element_done element_room inserted_element joined_text new_text text_at inserted_text room marked popped fostered is_of in_scope shorter after pairs_of same_pairs same_tag how_many after_marker surplus spared listed created_room created_for bad_formatting created entry_of furthest_of gone left_stack left_both renewed renewed_in renewed_at turn_at turned inner placed_at rehung at_mark relisted finished started adopted block_at blocked scope_at scoped open_at opened entry_at rounded rounds current_at agency few_nodes adoption middle_step low_step high_step step unless_refused on_item run_for run_from run_of bad_mark bad_context is_template_context first_modes begin_answer begin_nodes begin_modes begin_state whole expanded context_or standing mode_for mode_at onward walked given reset_mode digit_at digits indent text_number name_of space_of element_of further text_of node_of part_of level_of line_of level_down first_line extra_lines first_inside beside line_beside line_inside next_line lines_from tree_of seen_after lent begin_gives begun encoded_by encoded encoded_all bytes_of Still Right case_adopted case_printed few_free five_deep unlisted not_open out_of_scope fourth marker_between one_text in_td in_head in_html rows
 corners =
     fits case_adopted refl refl refl refl tt and
     fits case_printed refl refl refl refl tt and

@@ -1,8 +1,7 @@
 -- The corners of the adoption call, row by row. Nodes are numbered as they are made: 1 is the document, 2 the root.
 -- Assumes nothing.
-use Rattle.std.specs.Prelude.{true, false, [], ◌∷◌}
+use Rattle.std.specs.Prelude.{true, false, [], ◌∷◌, None}
 use Rattle.names.specs.Tag as tag
-use Rattle.state.specs.declared.Context.TheVariants.{None}
 use Rattle.queries.specs.Told.{told}
 use Rattle.queries.specs.Reset.{IN_BODY, IN_CELL}
 use Rattle.corners.specs.Records.{element, words, formatting, end, pop}

@@ -1,8 +1,7 @@
 -- The input that takes the most nodes: b, then nine times i u s div, no two of the tags equal, end b.
 -- Assumes nothing.
-use Rattle.std.specs.Prelude.{ℕ, zero, suc, List, [], ◌∷◌, ◌++◌}
+use Rattle.std.specs.Prelude.{ℕ, zero, suc, List, [], ◌∷◌, ◌++◌, None}
 use Rattle.names.specs.Tag as tag
-use Rattle.state.specs.declared.Context.TheVariants.{None}
 use Rattle.state.specs.Full.{Full}
 use Rattle.standard.specs.Begin.{begin_state, begin_nodes, begin_modes}
 use Rattle.standard.specs.Run.{Ran}

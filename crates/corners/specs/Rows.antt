@@ -1,9 +1,8 @@
 -- The other corners, row by row, and all rows. Nodes are numbered as they are made: 1 is the document, 2 the root.
 -- Assumes nothing.
-use Rattle.std.specs.Prelude.{ℕ, true, false, List, [], ◌∷◌}
+use Rattle.std.specs.Prelude.{ℕ, true, false, List, [], ◌∷◌, None, Some}
 use Rattle.names.specs.Space as space
 use Rattle.names.specs.Tag as tag
-use Rattle.state.specs.declared.Context.TheVariants.{None, Element}
 use Rattle.standard.specs.Small.{MARKER}
 use Rattle.queries.specs.Told.{told}
 use Rattle.queries.specs.Reset.{BEFORE_HEAD, IN_BODY, IN_ROW}
@@ -105,7 +104,7 @@ one_text =
 abbrev pub fragment : ℕ → ℕ → Row
 fragment name mode =
     record {
-      context = Element space.html name 0;
+      context = Some (record { space = space.html; name = name; mark = 0 });
       slots = 3;
       records = [];
       opened = 2 ∷ [];

@@ -1,7 +1,7 @@
 -- A corner as a row: a document, or a fragment with a context, is begun in lent memory, records are run, and something is seen after
 -- the last of them. All of it is what the definitions give: of begin, of runs, of the dump and of the reset of the insertion mode.
 -- Assumes nothing.
-use Rattle.std.specs.Prelude.{ℕ, zero, suc, ◌-◌, ◌*◌, ◌≡◌, Bool, true, false, cond, List, [], ◌∷◌, ◌++◌, length, take, replicate, eqb}
+use Rattle.std.specs.Prelude.{ℕ, zero, suc, ◌-◌, ◌*◌, ◌≡◌, Bool, true, false, cond, List, [], ◌∷◌, ◌++◌, length, take, replicate, eqb, Option}
 use Prim.Native.String.{String}
 use Rattle.names.specs.Text.{text}
 use Rattle.records.specs.Written.{encoded_all}
@@ -10,7 +10,7 @@ use Rattle.state.specs.Full.{Full}
 use Rattle.standard.specs.Begin.{begin_answer, begin_state, begin_nodes, begin_modes}
 use Rattle.standard.specs.Run.{Ran, run_of}
 use Rattle.edge.specs.Public.{whole}
-use Rattle.queries.specs.declared.Asked.{Asked}
+use Rattle.queries.specs.Told.{Asked}
 use Rattle.queries.specs.Reset.{reset_mode}
 use Rattle.dump.specs.declared.Cursor.{Cursor}
 use Rattle.dump.specs.Line.{line_of}
@@ -69,7 +69,7 @@ seen_after before r =
 
 pub record Row : Type 0 where
   -- the fragment context, or none
-  pub context : Context
+  pub context : Option Context
   -- how many slots are lent for nodes; slot 0 is none
   pub slots : ℕ
   -- each record as its numbers

@@ -1,12 +1,11 @@
 -- From the promises of `begin` and `run` to what the program prints. The begin is done: there are nodes for it.
 -- Assumes nothing.
-use Rattle.std.proofs.Common.{ℕ, min, ◌≡◌, refl, ap, ◌∙◌, true, List, arith, length, take, le-ltb}
+use Rattle.std.proofs.Common.{ℕ, min, ◌≡◌, refl, ap, ◌∙◌, true, List, arith, length, take, le-ltb, None}
 use Rattle.lent.specs.Mem.{slots}
 use Rattle.lent.specs.Room.{free_nodes}
 use Rattle.theory.specs.Says.{says_yes}
 use Rattle.sound.specs.State.{SoundFull}
 use Rattle.state.specs.declared.State.{State}
-use Rattle.state.specs.declared.Context.TheVariants.{None}
 use Rattle.standard.specs.Begin.{bad_context, is_template_context, first_modes, Begun, begun, begin_answer, begin_nodes, begin_modes, begin_state, begin_of}
 use Rattle.standard.specs.Run.{Ran, ran, run_of}
 use Rattle.kept.specs.Begin.{begin_sound}
@@ -29,10 +28,11 @@ module _ (n l m p q : List ℕ) (ok : begin_answer n m None ≡ 0) where
   unfolding begun_in whole begin_state
   begun_sound = begin_sound n l m p q None ok
 
-  module _ (st₀ : State) {b : ℕ} {st : State} {n₁ m₁ : List ℕ} (eb : begun b st n₁ m₁ ≡ begin_of st₀ n m None) where
+  -- v is what the begin gives, and st the record that is run on
+  module _ (st₀ v : State) {b : ℕ} {st : State} {n₁ m₁ : List ℕ} (is : st ≡ v) (eb : begun b v n₁ m₁ ≡ begin_of st₀ n m None) where
     begins : begun b st n₁ m₁ ≡ begun 0 (begin_state None) (begin_nodes n) (begin_modes m None)
     unfolding begin_of
-    begins = eb ∙ rw ok
+    begins = rw is (eb ∙ rw ok)
 
     begun_is : whole st n₁ l m₁ p q ≡ begun_in n l m p q
     unfolding begun_in

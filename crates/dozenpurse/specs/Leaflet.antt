@@ -1,8 +1,7 @@
 -- What the program does before it prints (document 01, records and dump): a document is begun in its memory, and the input is run, 16,384
 -- bytes of it at most; more counts as a cut record at the end.
 -- Assumes nothing.
-use Rattle.std.specs.Prelude.{ℕ, min, cond, List, length, take, eqb, ltb}
-use Rattle.state.specs.declared.Context.TheVariants.{None}
+use Rattle.std.specs.Prelude.{ℕ, min, cond, List, length, take, eqb, ltb, None}
 use Rattle.state.specs.Full.{Full}
 use Rattle.standard.specs.Begin.{begin_state, begin_nodes, begin_modes}
 use Rattle.standard.specs.Run.{Ran, run_of}

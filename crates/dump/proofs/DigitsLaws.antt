@@ -1,10 +1,9 @@
 -- A number's digits as they are written, one after the other; and that they are the decimal digits: their value is the number.
 -- Assumes nothing.
-use Rattle.std.proofs.Common.{◌≡◌, List, [], ◌∷◌, ℕ, ◌+◌, ◌-◌, ◌*◌, ◌/◌, ◌%◌, ◌≤◌, ◌<◌, arith, lt-ltb, le-ltb}
+use Rattle.std.proofs.Common.{◌≡◌, sym, ap, ◌∙◌, append_assoc, ◌++◌, List, [], ◌∷◌, ℕ, ◌+◌, ◌-◌, ◌*◌, ◌/◌, ◌%◌, ◌≤◌, ◌<◌, decimal, arith, lt-ltb, le-ltb}
 use Rattle.std.proofs.Math.Decide.{dec_lt}
+use Rattle.std.proofs.lemmas.Fmt.{decimal_by_steps}
 use Rattle.dump.specs.Digits.{digit_at, digits}
-use Rattle.dump.specs.Written.{Wrote}
-use Rattle.dump.proofs.WrittenLaws.{wrote_none}
 
 digit_at_none : (p n : ℕ) → n < p → digit_at p n ≡ []
 unfolding digit_at
@@ -14,11 +13,39 @@ digit_at_one : (p n : ℕ) → p ≤ n → digit_at p n ≡ (48 + n / p % 10) �
 unfolding digit_at
 digit_at_one p n h = rw (le-ltb n p h)
 
-pub digit_none : (p n : ℕ) (o : List ℕ) (i : ℕ) → n < p → Wrote o i (digit_at p n) o i
-digit_none p n o i h = rw (digit_at_none p n h) (wrote_none o i)
+-- ---- they are what std writes of a number
 
-pub digit_one : (p n : ℕ) {b : ℕ} {o : List ℕ} {i : ℕ} {e : List ℕ} {r : ℕ} → p ≤ n → b ≡ 48 + n / p % 10 → Wrote o i (b ∷ []) e r → Wrote o i (digit_at p n) e r
-digit_one p n h d w = rw (digit_at_one p n h, ← d) w
+-- a digit of the number without its last digit is one of the number
+shift : (p q n : ℕ) → (n / 10 < p → n < q) → (p ≤ n / 10 → q ≤ n) → n / 10 / p ≡ n / q → digit_at p (n / 10) ≡ digit_at q n
+shift p q n l g e = by (dec_lt (n / 10) p)
+  where
+    by : Dec (n / 10 < p) → digit_at p (n / 10) ≡ digit_at q n
+    by (yes h) = digit_at_none p (n / 10) h ∙ sym (digit_at_none q n (l h))
+    by (no h) = let k : p ≤ n / 10 = omega arith in digit_at_one p (n / 10) k ∙ rw e (sym (digit_at_one q n (g k)))
+
+digits_step : (n : ℕ) → 10 ≤ n → n < 100000 → digits n ≡ digits (n / 10) ++ (48 + n % 10) ∷ []
+unfolding digits
+digits_step n h k =
+    rw (
+      digit_at_none 10000 (n / 10) (omega arith),
+      shift 1000 10000 n (λ z. omega arith) (λ z. omega arith) (omega arith),
+      shift 100 1000 n (λ z. omega arith) (λ z. omega arith) (omega arith),
+      shift 10 100 n (λ z. omega arith) (λ z. omega arith) (omega arith),
+      digit_at_one 10 n h,
+    )
+    (simp append_assoc)
+
+digits_one : (n : ℕ) → n < 10 → digits n ≡ (48 + n) ∷ []
+unfolding digits
+digits_one n h =
+    let e : n % 10 ≡ n = omega arith in
+    rw (digit_at_none 10000 n (omega arith), digit_at_none 1000 n (omega arith), digit_at_none 100 n (omega arith), digit_at_none 10 n h, e)
+
+pub digits_decimal : (n : ℕ) → n < 100000 → decimal n ≡ digits n
+digits_decimal n h =
+    sym
+    (decimal_by_steps (λ (m : ℕ) (ds : List ℕ). m < 100000 → digits m ≡ ds) (λ m l k. digits_one m l)
+    (λ m ds l i k. digits_step m l k ∙ ap (λ (xs : List ℕ). xs ++ (48 + m % 10) ∷ []) (i (omega arith))) n (omega arith) h)
 
 -- ---- the digits are those of the number
 

@@ -4,5 +4,4 @@ pub mod LengthLaws
 pub mod LineLaws
 pub mod NameLaws
 pub mod OrderLaws
-pub mod PairLaws
 pub mod WrittenLaws

@@ -2,21 +2,13 @@
 -- Assumes nothing.
 use Rattle.std.proofs.Common.{◌≡◌, refl, sym, ◌∙◌, List, ℕ, zero, suc, ◌+◌, ◌-◌, ◌≤◌, ◌<◌, arith, eq-eqb, ne_eqb, le-leb, lt-ltb, le-ltb}
 use Rattle.std.proofs.lemmas.Bool.{lt-leb}
-use Rattle.lent.specs.Mem.{field, up, KIND, PARENT, NEXT, FIRST, TIE, COUNT}
+use Rattle.lent.specs.Mem.{field, up, KIND, NEXT, FIRST, TIE, COUNT}
 use Rattle.dump.specs.Order.{own_line, no_line, level_down, extra_lines, first_inside, beside, line_beside, line_inside, next_line}
 use Rattle.dump.specs.declared.Cursor.{Cursor}
 
 module _ (m : List ℕ) (n : ℕ) where
   -- what is above n, and what stands beside it
   module _ {k : ℕ} (q : k ≡ field m n KIND) where
-    pub up_contents : k ≡ 5 → up m n ≡ field m n TIE
-    unfolding up
-    up_contents h = rw (eq-eqb (field m n KIND) 5 (sym q ∙ h))
-
-    pub up_other : (k ≡ 5 → ⊥) → up m n ≡ field m n PARENT
-    unfolding up
-    up_other h = rw (ne_eqb (field m n KIND) 5 (λ z. h (q ∙ z)))
-
     pub beside_contents : {t : ℕ} → k ≡ 5 → t ≡ field m n TIE → beside m n ≡ field m t FIRST
     unfolding beside
     beside_contents h t = rw (eq-eqb (field m n KIND) 5 (sym q ∙ h), ← t)
@@ -83,10 +75,6 @@ module _ (m : List ℕ) (n : ℕ) where
       after_leaf g = rw (eq-eqb (first_inside m n) 0 (sym q ∙ h), eq-eqb (field m n FIRST) 0 (sym p ∙ g))
 
 module _ (m : List ℕ) (c : Cursor) where
-  pub next_none : c.node ≡ 0 → next_line m c ≡ no_line
-  unfolding next_line
-  next_none h = rw (eq-eqb c.node 0 h)
-
   module _ (h : c.node ≡ 0 → ⊥) {x : ℕ} (q : x ≡ extra_lines m c.node) where
     pub next_part : c.part < x → next_line m c ≡ record { node = c.node; level = c.level; part = c.part + 1 }
     unfolding next_line

@@ -3,7 +3,8 @@
 use Rattle.std.proofs.Common.{◌≡◌, refl, sym, ap, ◌∙◌, List, [], ◌∷◌, ◌++◌, ℕ, suc, ◌+◌, ◌≤◌, ◌<◌, min, zero-add, add-one, arith, length, set, get_or, take, drop, length-append, length-set, take-suc}
 use Rattle.std.proofs.Math.Decide.{dec_lt}
 use Rattle.std.proofs.Math.Seq.{sets, length-sets, sets-eq, set_out}
-use Rattle.dump.specs.Written.{written, place_after, Wrote}
+use Rattle.dump.specs.Written.{written, place_after, Wrote, Grew}
+use Rattle.dump.specs.declared.page.Page.{Page}
 
 -- past the end nothing is stored
 sets_past : (xs o : List ℕ) (i : ℕ) → length o ≤ i → sets o i xs ≡ o
@@ -53,15 +54,6 @@ pub wrote_none : (o : List ℕ) (i : ℕ) → Wrote o i [] o i
 unfolding written
 wrote_none o i = record { stored = refl; ends = sym (place_after_none (length o) i) }
 
--- a byte is stored where there is a place for it
-pub wrote_byte : (o : List ℕ) (i b : ℕ) → i < length o → Wrote o i (b ∷ []) (set o i b) (i + 1)
-unfolding written
-wrote_byte o i b h = record { stored = refl; ends = sym (place_after_one (length o) i h) }
-
-pub wrote_past : (o : List ℕ) (i b : ℕ) → length o ≤ i → Wrote o i (b ∷ []) o i
-unfolding written
-wrote_past o i b h = record { stored = sym (set_out o i b h); ends = sym (place_after_past (length o) i 1 h) }
-
 -- one text after another
 pub and_then : {o : List ℕ} {i : ℕ} {xs e : List ℕ} {j : ℕ} {ys f : List ℕ} {r : ℕ} → Wrote o i xs e j → Wrote e j ys f r → Wrote o i (xs ++ ys) f r
 unfolding written
@@ -72,20 +64,40 @@ and_then {o} {i} {xs} {e} {j} {ys} {f} {r} v w =
       ends = w.ends ∙ rw (l, v.ends, length-append xs ys) (place_after_add (length o) i (length xs) (length ys));
     }
 
--- the first i bytes, and then the next one
-pub wrote_next : {o : List ℕ} {i : ℕ} (b : List ℕ) (k : ℕ) {e : List ℕ} {j : ℕ} {f : List ℕ} {r : ℕ} → k < length b → Wrote o i (take k b) e j → Wrote e j (get_or b k 0 ∷ []) f r → Wrote o i (take (k + 1) b) f r
-wrote_next b k h v w = rw (add-one, take-suc b k 0 h) (and_then v w)
-
--- from the front on: how many bytes were stored, and what they make of the list
-pub wrote_front : {o xs e : List ℕ} {r : ℕ} → Wrote o 0 xs e r → (r ≡ min (length xs) (length o)) × (e ≡ written o 0 xs)
-unfolding place_after
-wrote_front w = (omega (arith, w.ends), w.stored)
-
 -- where all of it fits it stands in front, and the rest stays
 pub written_fits : (o xs : List ℕ) → length xs ≤ length o → written o 0 xs ≡ xs ++ drop (length xs) o
 unfolding written
 written_fits o xs h = sets-eq xs o 0 (omega arith) ∙ rw zero-add
 
+-- ---- the same of a page
+
+pub grew_none : (p : Page) → Grew p p []
+grew_none p = record { loan = refl; wrote = wrote_none p.out.now p.at }
+
+-- a byte is stored where there is a place for it
+pub grew_byte : {p q : Page} (b : ℕ) → p.at < length p.out.now → q.out.ghost_name ≡ p.out.ghost_name → q.out.now ≡ set p.out.now p.at b → q.at ≡ p.at + 1 → Grew p q (b ∷ [])
+unfolding written
+grew_byte {p} {q} b h l s e = record { loan = l; wrote = record { stored = s; ends = e ∙ sym (place_after_one (length p.out.now) p.at h) } }
+
+pub grew_past : (p : Page) (b : ℕ) → length p.out.now ≤ p.at → Grew p p (b ∷ [])
+unfolding written
+grew_past p b h =
+    record { loan = refl; wrote = record { stored = sym (set_out p.out.now p.at b h); ends = sym (place_after_past (length p.out.now) p.at 1 h) } }
+
+pub grew_then : {a b d : Page} {xs ys : List ℕ} → Grew a b xs → Grew b d ys → Grew a d (xs ++ ys)
+grew_then v w = record { loan = w.loan ∙ v.loan; wrote = and_then v.wrote w.wrote }
+
+-- the first k bytes, and then the next one
+pub grew_next : {a d f : Page} (b : List ℕ) (k : ℕ) → k < length b → Grew a d (take k b) → Grew d f (get_or b k 0 ∷ []) → Grew a f (take (k + 1) b)
+grew_next b k h v w = rw (add-one, take-suc b k 0 h) (grew_then v w)
+
 -- what is written is known by another name
-pub wrote_as : {o : List ℕ} {i : ℕ} {xs ys e : List ℕ} {r : ℕ} → xs ≡ ys → Wrote o i xs e r → Wrote o i ys e r
-wrote_as {o} {i} {xs} {ys} {e} {r} h w = rw h at w
+pub grew_as : {a b : Page} {xs ys : List ℕ} → xs ≡ ys → Grew a b xs → Grew a b ys
+grew_as h w = rw h at w
+
+-- on a page that was new: how many bytes were stored, and what they make of the buffer
+pub grew_front : {a b : Page} {o xs : List ℕ} → a.out.now ≡ o → a.at ≡ 0 → Grew a b xs → (b.at ≡ min (length xs) (length o)) × (b.out.now ≡ written o 0 xs)
+unfolding place_after
+grew_front {a} {b} {o} {xs} u f w =
+    let v : Wrote o 0 xs b.out.now b.at = rw (u, f) at w.wrote in
+    (omega (arith, v.ends), v.stored)

@@ -2,6 +2,7 @@
 -- Assumes nothing.
 use Rattle.std.specs.Prelude.{ℕ, ◌+◌, min, max, ◌≡◌, List, length}
 use Rattle.std.proofs.lemmas.List.Edits.{sets}
+use Rattle.dump.specs.declared.page.Page.{Page}
 
 -- o with xs stored from place i on, one byte after the other; a byte past the end is not stored
 unfoldable pub written : List ℕ → ℕ → List ℕ → List ℕ
@@ -15,3 +16,9 @@ place_after l i n = max i (min (i + n) l)
 pub record Wrote (o : List ℕ) (i : ℕ) (xs e : List ℕ) (r : ℕ) : Type 0 where
   pub stored : e ≡ written o i xs
   pub ends : r ≡ place_after (length o) i (length xs)
+
+-- a call wrote xs on a page, after what was written before
+pub record Grew (old new : Page) (xs : List ℕ) : Type 0 where
+  -- it lends the same memory
+  pub loan : new.out.ghost_name ≡ old.out.ghost_name
+  pub wrote : Wrote old.out.now old.at xs new.out.now new.at

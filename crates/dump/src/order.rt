@@ -1,5 +1,5 @@
 // Document order: where the line after all of a node's own lines is.
-ghost use Rattle.std.specs.Prelude.{◌≡◌, ◌-◌};
+ghost use Rattle.std.specs.Prelude.{◌≡◌};
 ghost use Rattle.lent.specs.Mem.{up};
 ghost use Rattle.dump.specs.Order.{own_line, level_down, extra_lines, first_inside, beside, line_beside, line_inside};
 
@@ -11,29 +11,25 @@ pub fn own_line(n: u16, level: usize) -> Cursor
 {
     Cursor {
         node: n,
-        level: level,
+        level,
         part: 0,
     }
 }
 
 // One level down, up to the largest.
+#[tactic(auto, unfolding(crate::specs::Order::level_down))]
 fn level_down(level: usize) -> usize
     ensures { result ≡ level_down level }
 {
-    if level < 65535 { level + 1 } else { 65535 }
-}
-
-fn level_up(level: usize) -> usize
-    ensures { result ≡ level - 1 }
-{
-    if 0 < level { level - 1 } else { 0 }
+    level.saturating_add(1).min(65535)
 }
 
 // How many lines a node has between its own and those of its children.
+#[tactic(auto, unfolding(crate::specs::Order::extra_lines))]
 pub fn extra_lines(nodes: &[u8], n: Node) -> usize
     ensures { result ≡ extra_lines nodes.now n.0 }
 {
-    let count = crate::wide(lent::get(nodes, n, Node::COUNT));
+    let count = usize::from(lent::get(nodes, n, Node::COUNT));
     if lent::get(nodes, n, Node::TIE) == Node::NONE {
         return count;
     }
@@ -41,6 +37,7 @@ pub fn extra_lines(nodes: &[u8], n: Node) -> usize
 }
 
 // The first child of a node's contents.
+#[tactic(auto, unfolding(crate::specs::Order::first_inside))]
 fn first_inside(nodes: &[u8], n: Node) -> u16
     ensures { result ≡ first_inside nodes.now n.0 }
 {
@@ -52,6 +49,7 @@ fn first_inside(nodes: &[u8], n: Node) -> u16
 }
 
 // After contents come their template's own children, after anything else its next sibling.
+#[tactic(auto, unfolding(crate::specs::Order::beside))]
 fn beside(nodes: &[u8], n: Node) -> u16
     ensures { result ≡ beside nodes.now n.0 }
 {
@@ -66,20 +64,17 @@ fn beside(nodes: &[u8], n: Node) -> u16
 fn up(nodes: &[u8], n: Node) -> u16
     ensures { result ≡ up nodes.now n.0 }
 {
-    if lent::get(nodes, n, Node::KIND) == Kind::CONTENTS {
-        return lent::get(nodes, n, Node::TIE);
-    }
-    lent::get(nodes, n, Node::PARENT)
+    lent::wide::up(nodes, usize::from(n.0)) as u16
 }
 
 // Going up ends after k nodes, also where the links go round.
+#[tactic(auto, using(crate::proofs::OrderLaws::past_spent, crate::proofs::OrderLaws::past_document, crate::proofs::OrderLaws::past_found, crate::proofs::OrderLaws::past_step))]
 fn line_beside(nodes: &[u8], k: usize, n: u16, level: usize) -> Cursor
     ensures { result ≡ line_beside nodes.now k n level }
 {
     let mut at = n;
     let mut high = level;
-    let mut left = k;
-    while 0 < left {
+    for _ in 0..k {
         if at <= Node::DOCUMENT {
             return own_line(Node::NONE, 0);
         }
@@ -88,13 +83,13 @@ fn line_beside(nodes: &[u8], k: usize, n: u16, level: usize) -> Cursor
             return own_line(next, high);
         }
         at = up(nodes, Node(at));
-        high = level_up(high);
-        left -= 1;
+        high = high.saturating_sub(1);
     }
     own_line(Node::NONE, 0)
 }
 
 // The line after a node's own ones.
+#[tactic(auto, unfolding(crate::specs::Order::line_inside))]
 pub fn line_inside(nodes: &[u8], n: Node, level: usize) -> Cursor
     ensures { result ≡ line_inside nodes.now n.0 level }
 {

@@ -1,136 +1,102 @@
 // What stands on a line: an element, a text, a comment, an attribute.
-ghost use Rattle.std.specs.Prelude.{◌≡◌, ◌<◌};
-ghost use Rattle.lent.specs.Mem.{PAIRS, load};
 ghost use Rattle.dump.specs.Line.{space_of, element_of, comment_of, further, text_of, node_of, pair_of, part_of};
-ghost use Rattle.dump.specs.Written.{Wrote};
+ghost use Rattle.dump.specs.Written.{Grew};
 
-use crate::{Cursor, put};
+use crate::Cursor;
+use crate::page::Page;
+use lent::wide::pair_field;
 use lent::{Kind, Node, Pair, Piece};
 use names::Namespace;
 
-fn space(s: u16, out: &mut [u8], at: usize) -> usize
-    ensures { Wrote out.old at (space_of s) out.new result }
+#[tactic(auto, unfolding(crate::specs::Line::space_of, names::specs::Text::text))]
+fn space(s: u16, page: &mut Page<'_>)
+    ensures { Grew page.old page.new (space_of s) }
 {
-    if s == Namespace::SVG {
-        return put::bytes(b"svg ", out, at);
+    match s {
+        Namespace::SVG => page.bytes(b"svg "),
+        Namespace::MATHML => page.bytes(b"math "),
+        _ => {}
     }
-    if s == Namespace::MATHML {
-        return put::bytes(b"math ", out, at);
-    }
-    at
 }
 
-fn element(nodes: &[u8], n: Node, out: &mut [u8], at: usize) -> usize
-    ensures { Wrote out.old at (element_of nodes.now n.0) out.new result }
+fn element(nodes: &[u8], n: Node, page: &mut Page<'_>)
+    ensures { Grew page.old page.new (element_of nodes.now n.0) }
 {
-    let s = lent::get(nodes, n, Node::SPACE);
-    let name = lent::get(nodes, n, Node::NAME);
-    let a = put::byte(b'<', out, at);
-    let b = space(s, out, a);
-    let c = put::name(name, out, b);
-    put::byte(b'>', out, c)
+    page.byte(b'<');
+    space(lent::get(nodes, n, Node::SPACE), page);
+    page.name(lent::get(nodes, n, Node::NAME));
+    page.byte(b'>');
 }
 
-fn comment(nodes: &[u8], n: Node, out: &mut [u8], at: usize) -> usize
-    ensures { Wrote out.old at (comment_of nodes.now n.0) out.new result }
+fn comment(nodes: &[u8], n: Node, page: &mut Page<'_>)
+    ensures { Grew page.old page.new (comment_of nodes.now n.0) }
 {
-    let number = lent::get(nodes, n, Node::NAME);
-    let a = put::bytes(b"<!-- ", out, at);
-    let b = put::text_number(number, out, a);
-    put::bytes(b" -->", out, b)
+    page.bytes(b"<!-- ");
+    page.text_number(lent::get(nodes, n, Node::NAME));
+    page.bytes(b" -->");
 }
 
 // The pieces from i on, each with a space before it: k of them at most.
-fn further(pieces: &[u8], k: usize, i: u16, out: &mut [u8], at: usize) -> usize
-    ensures { Wrote out.old at (further pieces.now k i) out.new result }
+fn further(pieces: &[u8], k: usize, i: u16, page: &mut Page<'_>)
+    ensures { Grew page.old page.new (further pieces.now k i) }
 {
-    let mut place = at;
     let mut piece = i;
-    let mut left = k;
-    while 0 < left {
+    for _ in 0..k {
         if piece == 0 {
-            return place;
+            return;
         }
-        left -= 1;
-        let number = lent::get_piece(pieces, piece, Piece::TEXT);
-        place = put::byte(b' ', out, place);
-        place = put::text_number(number, out, place);
+        page.byte(b' ');
+        page.text_number(lent::get_piece(pieces, piece, Piece::TEXT));
         piece = lent::get_piece(pieces, piece, Piece::NEXT);
     }
-    place
 }
 
 // The pieces of a text, from its first one on.
-fn text(pieces: &[u8], i: u16, out: &mut [u8], at: usize) -> usize
-    ensures { Wrote out.old at (text_of pieces.now i) out.new result }
+fn text(pieces: &[u8], i: u16, page: &mut Page<'_>)
+    ensures { Grew page.old page.new (text_of pieces.now i) }
 {
     if i == 0 {
-        return at;
+        return;
     }
-    let number = lent::get_piece(pieces, i, Piece::TEXT);
+    page.text_number(lent::get_piece(pieces, i, Piece::TEXT));
     let then = lent::get_piece(pieces, i, Piece::NEXT);
-    let a = put::text_number(number, out, at);
-    further(pieces, Piece::MOST - 1, then, out, a)
+    further(pieces, Piece::MOST - 1, then, page);
 }
 
 // A node's own line.
-fn node(nodes: &[u8], pieces: &[u8], n: Node, out: &mut [u8], at: usize) -> usize
-    ensures { Wrote out.old at (node_of nodes.now pieces.now n.0) out.new result }
+#[tactic(auto, unfolding(crate::specs::Line::node_of))]
+fn node(nodes: &[u8], pieces: &[u8], n: Node, page: &mut Page<'_>)
+    ensures { Grew page.old page.new (node_of nodes.now pieces.now n.0) }
 {
-    let kind = lent::get(nodes, n, Node::KIND);
-    if kind == Kind::ELEMENT {
-        return element(nodes, n, out, at);
+    match lent::get(nodes, n, Node::KIND) {
+        Kind::ELEMENT => element(nodes, n, page),
+        Kind::TEXT => text(pieces, lent::get(nodes, n, Node::PIECE), page),
+        Kind::COMMENT => comment(nodes, n, page),
+        _ => {}
     }
-    if kind == Kind::TEXT {
-        let first = lent::get(nodes, n, Node::PIECE);
-        return text(pieces, first, out, at);
-    }
-    if kind == Kind::COMMENT {
-        return comment(nodes, n, out, at);
-    }
-    at
-}
-
-// Field f of pair i. A number past the pairs reads as 0, as in `lent`, where it is a u16.
-fn pair_field(pairs: &[u8], i: usize, f: usize) -> u16
-    requires { f < 2 }
-    ensures { result ≡ load PAIRS pairs.now i f }
-{
-    if i < Pair::MOST {
-        return lent::get_pair(pairs, i as u16, f);
-    }
-    0
 }
 
 // An attribute's line.
-fn pair(pairs: &[u8], i: usize, out: &mut [u8], at: usize) -> usize
-    ensures { Wrote out.old at (pair_of pairs.now i) out.new result }
+fn pair(pairs: &[u8], i: usize, page: &mut Page<'_>)
+    ensures { Grew page.old page.new (pair_of pairs.now i) }
 {
-    let label = pair_field(pairs, i, Pair::NAME);
-    let value = pair_field(pairs, i, Pair::VALUE);
-    let a = put::byte(b'@', out, at);
-    let b = put::number(label, out, a);
-    let c = put::byte(b'=', out, b);
-    put::text_number(value, out, c)
+    page.byte(b'@');
+    page.number(pair_field(pairs, i, Pair::NAME));
+    page.byte(b'=');
+    page.text_number(pair_field(pairs, i, Pair::VALUE));
 }
 
 // What stands on the line at c: the node itself, an attribute of it, or `content`.
-pub fn part(
-    nodes: &[u8],
-    pieces: &[u8],
-    pairs: &[u8],
-    c: Cursor,
-    out: &mut [u8],
-    at: usize,
-) -> usize
-    ensures { Wrote out.old at (part_of nodes.now pieces.now pairs.now c) out.new result }
+#[tactic(auto, unfolding(crate::specs::Line::part_of, names::specs::Text::text))]
+pub fn part(nodes: &[u8], pieces: &[u8], pairs: &[u8], c: Cursor, page: &mut Page<'_>)
+    ensures { Grew page.old page.new (part_of nodes.now pieces.now pairs.now c) }
 {
     if c.part == 0 {
-        return node(nodes, pieces, Node(c.node), out, at);
+        return node(nodes, pieces, Node(c.node), page);
     }
-    if c.part <= crate::wide(lent::get(nodes, Node(c.node), Node::COUNT)) {
-        let first = crate::wide(lent::get(nodes, Node(c.node), Node::START));
-        return pair(pairs, first + (c.part - 1), out, at);
+    if c.part <= usize::from(lent::get(nodes, Node(c.node), Node::COUNT)) {
+        let first = usize::from(lent::get(nodes, Node(c.node), Node::START));
+        return pair(pairs, first + (c.part - 1), page);
     }
-    put::bytes(b"content", out, at)
+    page.bytes(b"content");
 }

@@ -1,6 +1,6 @@
 -- A test of a rule, what it decides, and a state each allow one thing only: answer, record and every lent slice.
 -- Assumes nothing.
-use Rattle.std.proofs.Common.{ℕ, ◌≡◌, refl, ap, sym, ◌∙◌, List, ◌++◌, Bool, true, false, cond, take-append-drop}
+use Rattle.std.proofs.Common.{ℕ, ◌≡◌, refl, ap, sym, ◌∙◌, List, ◌++◌, Bool, true, false, cond, take-append-drop, Option}
 use Rattle.theory.specs.Says.{Says}
 use Rattle.places.specs.Places.{Places, places_of}
 use Rattle.state.specs.declared.State.{State}
@@ -22,7 +22,6 @@ checked_one {y = y} {n} w v = w.is ∙ ap (λ (r : Bool). cond r y n) (says_one 
 
 -- places that look the same are the same
 places_one : (s s' : List ℕ) (d d' : ℕ) → places_of s d ≡ places_of s' d' → (s ≡ s') × (d ≡ d')
-unfolding places_of
 places_one s s' d d' e =
     (sym (take-append-drop d s) ∙ ap (λ (p : Places). p.held ++ p.free) e ∙ take-append-drop d' s', ap (λ (p : Places). p.size) e)
 
@@ -35,7 +34,7 @@ pub record Same (st st' : State) (n l m p q n' l' m' p' q' : List ℕ) : Type 0 
   pub pieces : p ≡ p'
   pub pairs : q ≡ q'
 
-state_eq : {h h' : List ℕ} {d d' a a' b b' c c' i i' j j' : ℕ} {g g' : Flags} {x x' : Context} → h ≡ h' → d ≡ d' → a ≡ a' → b ≡ b' → c ≡ c' → i ≡ i' → j ≡ j' → g ≡ g' → x ≡ x'
+state_eq : {h h' : List ℕ} {d d' a a' b b' c c' i i' j j' : ℕ} {g g' : Flags} {x x' : Option Context} → h ≡ h' → d ≡ d' → a ≡ a' → b ≡ b' → c ≡ c' → i ≡ i' → j ≡ j' → g ≡ g' → x ≡ x'
     → ◌≡◌ {A = State}
     (record { stack = record { handles = h; depth = d }; counts = record { nodes = a; pieces = b; pairs = c; list = i; modes = j }; flags = g; context = x })
     (record { stack = record { handles = h'; depth = d' }; counts = record { nodes = a'; pieces = b'; pairs = c'; list = i'; modes = j' }; flags = g'; context = x' })

@@ -6,25 +6,20 @@ ghost use Rattle.lent.specs.Mem.{up};
 ghost use Rattle.theory.specs.Says.{Says};
 ghost use Rattle.theory.specs.Depth.{Ends, InRange, depth};
 
-#[derive(Clone, Copy)]
-pub struct Got {
-    y: usize,
-    k: usize,
-}
-
-// From x up to a node whose depth is known, or to none, in at most c + 1 steps.
-fn climb(mem: &[u8], dep: &[u16], c: usize, x: usize) -> Got
+// From x up to a node whose depth is known, or to none: that node, and after how many steps, c + 1 where there were more.
+fn climb(mem: &[u8], dep: &[u16], c: usize, x: usize) -> (usize, usize)
     requires given { Given (up mem.now) dep.now c }
     requires x_le_c { x ≤ c }
-    ensures { Climbed (up mem.now) dep.now c x result.y result.k }
+    ensures { Climbed (up mem.now) dep.now c x result.0 result.1 }
 {
     let mut y = x;
-    let mut k: usize = 0;
-    while k <= c && y != 0 && dep[y] == 0 {
+    for k in 0..=c {
+        if y == 0 || dep[y] != 0 {
+            return (y, k);
+        }
         y = lent::wide::up(mem, y);
-        k += 1;
     }
-    Got { y, k }
+    (y, c + 1)
 }
 
 // The k nodes from x on up get their depths, the last of them d + 1.
@@ -36,11 +31,12 @@ fn assign(mem: &[u8], dep: &mut [u16], c: usize, x: usize, k: usize, d: usize)
     ensures { Assigned (up mem.now) dep.old dep.new c x k }
 {
     let mut z = x;
-    let mut e = k;
-    while e > 0 && z != 0 {
-        dep[z] = (d + e) as u16;
+    for left in (0..k).rev() {
+        if z == 0 {
+            return;
+        }
+        dep[z] = (d + 1 + left) as u16;
         z = lent::wide::up(mem, z);
-        e -= 1;
     }
 }
 
@@ -49,17 +45,13 @@ fn fill(mem: &[u8], dep: &mut [u16], c: usize) -> bool
     requires { Given (up mem.now) dep.old c }
     ensures { Filled (up mem.now) dep.old dep.new c result }
 {
-    let mut x: usize = 1;
-    while x <= c {
-        let got = climb(mem, dep, c, x);
-        let y = got.y;
-        let k = got.k;
-        let d = dep[y] as usize;
+    for x in 1..=c {
+        let (y, k) = climb(mem, dep, c, x);
+        let d = usize::from(dep[y]);
         if d + k > c {
             return false;
         }
         assign(mem, dep, c, x, k, d);
-        x += 1;
     }
     true
 }
@@ -70,30 +62,21 @@ fn verify(mem: &[u8], dep: &[u16], c: usize) -> bool
     requires known { Known dep.now c }
     ensures { Says (Ends (up mem.now) c) result }
 {
-    let mut n: usize = 1;
-    while n <= c {
+    for n in 1..=c {
         let p = lent::wide::up(mem, n);
-        if p != 0 {
-            let a = dep[p];
-            let b = dep[n];
-            if a >= b {
-                return false;
-            }
+        if p != 0 && dep[p] >= dep[n] {
+            return false;
         }
-        n += 1;
     }
     true
 }
 
-// Whether going to the parent always ends.
+/// Whether going up from each of the nodes 1 to c always ends, where up is the parent, or of contents the template.
 pub fn ends(mem: &[u8], c: usize) -> bool
     requires c_bound { c ≤ 4096 }
     requires in_range { InRange (up mem.now) c }
     ensures { Says (Ends (up mem.now) c) result }
 {
     let mut dep = [0u16; 4097];
-    if !fill(mem, &mut dep, c) {
-        return false;
-    }
-    verify(mem, &dep, c)
+    fill(mem, &mut dep, c) && verify(mem, &dep, c)
 }

@@ -1,25 +1,34 @@
 -- The cases of the entry that a fourth equal tag drives out, as the code meets them.
 -- Assumes nothing.
-use Rattle.std.proofs.Common.{ℕ, ◌+◌, ◌<◌, ◌≤◌, ◌≡◌, refl, sym, ap, ◌∙◌, Bool, true, false, cond, List, [], ◌∷◌, arith, length, get_or, take, drop, length-take-le, ltb, lt-ltb, le-ltb}
-use Rattle.places.specs.Places.{Places, places_of, place_of, first_with}
-use Rattle.places.specs.declared.Found.{Found}
-use Rattle.places.specs.declared.Found.TheVariants.{At, Nothing}
-use Rattle.places.proofs.Laws.{never_at}
-use Rattle.places.proofs.First.{rest_none, rest_cons, first_from}
+use Rattle.std.proofs.Common.{ℕ, ◌+◌, ◌-◌, ◌<◌, ◌≤◌, ◌≡◌, refl, sym, ap, ◌∙◌, Bool, true, false, cond, List, [], ◌∷◌, arith, length, get_or, take, drop, length-take-le, ltb, lt-ltb, le-ltb, None, Option, Some}
+use Rattle.std.specs.Bool.{then_some}
+use Rattle.std.specs.Int.{from_bool}
+use Rattle.std.proofs.lemmas.List.{drop_more, drop-take}
+use Rattle.std.proofs.Math.ListN.{drop_of_length-le}
+use Rattle.places.specs.Places.{Places, Whole, places_of, place_of, first_with}
+use Rattle.places.proofs.Laws.{never_at, of_whole, place_lt}
+use Rattle.places.proofs.First.{first_from}
 use Rattle.standard.specs.Small.{MARKER}
 use Rattle.standard.specs.Formatting.{after, how_many, after_marker, surplus}
 
-pub marker_at : (l : Places) {o : Found} {i : ℕ} → o ≡ place_of l MARKER → o ≡ At i → i + 1 ≡ after_marker l
+pub marker_at : (l : Places) {o : Option ℕ} {i : ℕ} → o ≡ place_of l MARKER → o ≡ Some i → i + 1 ≡ after_marker l
 unfolding after_marker after
 marker_at l eo h = rw (sym eo ∙ h)
 
-pub marker_none : (l : Places) {o : Found} → o ≡ place_of l MARKER → o ≡ Nothing → 0 ≡ after_marker l
+pub marker_none : (l : Places) {o : Option ℕ} → o ≡ place_of l MARKER → o ≡ None → 0 ≡ after_marker l
 unfolding after_marker after
 marker_none l eo h = rw (sym eo ∙ h)
 
-pub one_or_none : (b : Bool) {a : ℕ} → a ≡ cond b 1 0 → a ≤ 1
+pub marker_lt : (s : List ℕ) (d : ℕ) {o : Option ℕ} {i : ℕ} → Whole (places_of s d) → o ≡ place_of (places_of s d) MARKER → o ≡ Some i → i < d
+marker_lt s d w eo h = place_lt s d MARKER _ (of_whole s d w) (sym eo ∙ h)
+
+pub one_or_none : (b : Bool) {a : ℕ} → a ≡ from_bool b → a ≤ 1
 one_or_none true e = omega arith
 one_or_none false e = omega arith
+
+pub here_is : (B : Bool) (i : ℕ) {b : Bool} {o : Option ℕ} → o ≡ then_some b i → b ≡ B → o ≡ cond B (Some i) None
+here_is true i eo eb = eo ∙ rw eb
+here_is false i eo eb = eo ∙ rw eb
 
 -- ---- the count, over the first `size` entries of l: those from i on are left
 
@@ -31,35 +40,44 @@ many_cons : (p : ℕ → Bool) (x : ℕ) (xs : List ℕ) → how_many p (x ∷ x
 unfolding how_many
 many_cons p x xs = refl
 
-module _ (p : ℕ → Bool) (l : List ℕ) (size i : ℕ) (le : size ≤ length l) where
-  pub many_turn : (n a : ℕ) {G : ℕ} {b : Bool} → i < size → b ≡ p (get_or l i 0) → a ≡ cond b 1 0 → G ≡ n + how_many p (drop i (take size l)) → G ≡ (n + a) + how_many p (drop (i + 1) (take size l))
-  many_turn n a h eb ea g =
-      let e : how_many p (drop i (take size l)) ≡ a + how_many p (drop (i + 1) (take size l)) = ap (how_many p) (rest_cons l size i le h) ∙ many_cons p (get_or l i 0) (drop (i + 1) (take size l)) ∙ rw (← eb, ← ea) in
+one_is : (b : Bool) → cond b 1 0 ≡ from_bool b
+one_is true = refl
+one_is false = refl
+
+module _ (p : ℕ → Bool) (l : List ℕ) (i : ℕ) where
+  pub many_turn : (n a : ℕ) {G : ℕ} {b : Bool} → i < length l → b ≡ p (get_or l i 0) → a ≡ from_bool b → G ≡ n + how_many p (drop i l) → G ≡ (n + a) + how_many p (drop (i + 1) l)
+  many_turn n a {b = b} h eb ea g =
+      let e : how_many p (drop i l) ≡ a + how_many p (drop (i + 1) l) = ap (how_many p) (drop_more l i 0 h) ∙ many_cons p (get_or l i 0) (drop (i + 1) l) ∙ rw (← eb, one_is b, ← ea) in
       omega arith
 
-  pub many_end : (n : ℕ) {G : ℕ} → size ≤ i → G ≡ n + how_many p (drop i (take size l)) → n ≡ G
-  many_end n h g = let e : how_many p (drop i (take size l)) ≡ 0 = ap (how_many p) (rest_none l size i le h) ∙ many_none p in omega arith
+  pub many_end : (n : ℕ) {G : ℕ} → length l ≤ i → G ≡ n + how_many p (drop i l) → n ≡ G
+  many_end n h g = let e : how_many p (drop i l) ≡ 0 = ap (how_many p) (drop_of_length-le l h) ∙ many_none p in omega arith
 
 -- ---- the whole
 
-module _ (p : ℕ → Bool) (l : List ℕ) (size : ℕ) {first : ℕ} (ef : first ≡ after_marker (places_of l size)) {k : ℕ} (ek : k ≡ how_many p (drop first (take size l))) where
-  pub surplus_none : k < 3 → Nothing ≡ surplus p (places_of l size)
-  unfolding surplus places_of
-  surplus_none h = rw (← ef, ← ek, le-ltb 2 k (omega arith))
+-- the entries in use from `first` on
+rest_is : (l : List ℕ) (size first : ℕ) → first ≤ size → drop first (take size l) ≡ take (size - first) (drop first l)
+rest_is l size first le =
+    let e : first + (size - first) ≡ size = omega arith in
+    ap (λ (k : ℕ). drop first (take k l)) (sym e) ∙ drop-take first (size - first) l
 
-  pub surplus_at : {o : Found} → 3 ≤ k → o ≡ first_with p (drop first (take size l)) first → o ≡ surplus p (places_of l size)
-  unfolding surplus places_of
-  surplus_at h eo = eo ∙ rw (← ef, ← ek, lt-ltb 2 k (omega arith))
+module _ (p : ℕ → Bool) (l : List ℕ) (size first k : ℕ) (ef : first ≡ after_marker (places_of l size)) (le : first ≤ size) (ek : k ≡ how_many p (take (size - first) (drop first l))) where
+  many_is : k ≡ how_many p (drop first (take size l))
+  many_is = ek ∙ ap (how_many p) (sym (rest_is l size first le))
+
+  pub surplus_none : k < 3 → None ≡ surplus p (places_of l size)
+  unfolding surplus
+  surplus_none h = rw (← ef, ← many_is, le-ltb 2 k (omega arith))
+
+  pub surplus_at : {o : Option ℕ} → 3 ≤ k → o ≡ first_with p (drop first (take size l)) first → o ≡ surplus p (places_of l size)
+  unfolding surplus
+  surplus_at h eo = eo ∙ rw (← ef, ← many_is, lt-ltb 2 k (omega arith))
 
 -- the entry is one of those in use
-pub surplus_below : (p : ℕ → Bool) (l : Places) (i : ℕ) → surplus p l ≡ At i → i < length l.held
+pub surplus_below : (p : ℕ → Bool) (l : Places) (i : ℕ) → surplus p l ≡ Some i → i < length l.held
 unfolding surplus
 surplus_below p l i h = by (ltb 2 (how_many p (drop (after_marker l) l.held))) h
   where
-    by : (b : Bool) → cond b (first_with p (drop (after_marker l) l.held) (after_marker l)) Nothing ≡ At i → i < length l.held
+    by : (b : Bool) → cond b (first_with p (drop (after_marker l) l.held) (after_marker l)) None ≡ Some i → i < length l.held
     by false e = absurd (never_at i e)
     by true e = (first_from p l.held (after_marker l) i e).below
-
-pub surplus_lt : (p : ℕ → Bool) (l : List ℕ) (size i : ℕ) {o : Found} → size ≤ length l → o ≡ surplus p (places_of l size) → o ≡ At i → i < size
-unfolding places_of
-surplus_lt p l size i le eo h = omega (arith, surplus_below p (places_of l size) i (sym eo ∙ h), length-take-le size l le)

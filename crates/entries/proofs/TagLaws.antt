@@ -1,17 +1,11 @@
 -- The cases of equal tags, as the code meets them. Nothing else unfolds what equal means.
 -- Assumes nothing.
-use Rattle.std.proofs.Common.{ℕ, zero, suc, ◌+◌, ◌-◌, ◌<◌, ◌≤◌, ◌≡◌, refl, sym, ap, ◌∙◌, Bool, true, false, ◌&&◌, List, ◌∷◌, arith, sub-one, not-suc-le-zero, add-zero, eqb, eq-eqb, ne_eqb, le-ltb}
+use Rattle.std.proofs.Common.{ℕ, zero, suc, ◌+◌, ◌-◌, ◌<◌, ◌≤◌, ◌≡◌, refl, sym, ap, ◌∙◌, Bool, true, false, ◌&&◌, List, ◌∷◌, arith, sub-one, not-suc-le-zero, add-zero, eqb, eq-eqb, ne_eqb}
 use Rattle.std.proofs.Math.Nat.{sub-zero}
-use Rattle.lent.specs.Mem.{PAIRS, slots, inside, load, field, NAME, START, COUNT}
-use Rattle.lent.proofs.Kit.{load_out}
+use Rattle.lent.specs.Mem.{PAIRS, load, field, NAME, START, COUNT}
 use Rattle.records.specs.Pair.{name_at, text_at, pair_next}
 use Rattle.standard.specs.Pairs.{pairs_in}
 use Rattle.standard.specs.Formatting.{pairs_of, same_pairs, same_tag}
-
--- no pair is past the largest number
-pub pair_past : (q : List ℕ) (n f : ℕ) → 4096 ≤ n → 0 ≡ load PAIRS q n f
-unfolding inside slots
-pair_past q n f h = sym (load_out PAIRS q n f (le-ltb n (slots PAIRS q) (omega arith)))
 
 -- ---- the pairs
 
@@ -45,9 +39,6 @@ same_lengths q s u i (suc j) (suc k) h =
 
 -- the loop that compares: i of count pairs are the same, and all comes to G
 module _ (q s : List ℕ) (start at count i : ℕ) where
-  pub same_start : same_pairs (pairs_of q start count) (pairs_in s at count) ≡ same_pairs (pairs_of q (start + 0) (count - 0)) (pairs_in s at (count - 0))
-  same_start = rw (add-zero, sub-zero)
-
   pub same_end : {G : Bool} → count ≤ i → G ≡ same_pairs (pairs_of q (start + i) (count - i)) (pairs_in s at (count - i)) → true ≡ G
   same_end h g = let z : count - i ≡ 0 = omega arith in sym (g ∙ rw z (same_none q s (start + i) at))
 

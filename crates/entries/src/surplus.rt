@@ -1,104 +1,66 @@
 // The entry that a fourth equal tag drives out: the earliest of three or more after the last marker.
-ghost use Rattle.std.specs.Prelude.{◌≡◌, cond, ◌<◌, ◌≤◌, length, get_or, take, drop};
-ghost use Rattle.places.specs.Places.{places_of, first_with};
-ghost use Rattle.places.specs.declared.Found.TheVariants.{At, Nothing};
+ghost use Rattle.std.specs.Prelude.{◌≡◌, ◌≤◌, drop};
+ghost use Rattle.places.specs.Places.{Whole, first_with};
 ghost use Rattle.standard.specs.Pairs.{pairs_in};
 ghost use Rattle.standard.specs.Formatting.{same_tag, how_many, after_marker};
 ghost use Rattle.standard.specs.Formatting as def;
+ghost use Rattle.state.specs.Builder.{full_of};
 
 use crate::tags;
 use crate::tags::Token;
 use lent::Node;
-use places::Found;
-
-fn one_if(b: bool) -> usize
-    ensures { result ≡ cond b 1 0 }
-{
-    if b { 1 } else { 0 }
-}
+use state::builder::Builder;
 
 // Where the entries after the last marker begin.
-fn after_marker(list: &[u16], size: usize) -> usize
-    requires { size ≤ length list.now }
-    ensures { (result ≤ size) × (result ≡ after_marker (places_of list.now size)) }
+#[tactic(auto, using(crate::proofs::SurplusLaws::marker_at, crate::proofs::SurplusLaws::marker_none))]
+fn after_marker(b: &Builder<'_>) -> usize
+    requires { Whole (full_of b.now).list }
+    ensures most { result ≤ (full_of b.now).list.size }
+    ensures first { result ≡ after_marker (full_of b.now).list }
 {
-    match places::find(list, size, Node::MARKER) {
-        Found::At(i) => i + 1,
-        Found::Nothing => 0,
+    let size = b.core.counts.list;
+    match places::find(b.list, size, Node::MARKER) {
+        Some(i) => i + 1,
+        None => 0,
     }
 }
 
-// How many entries from `first` on have the tag.
-fn how_many(
-    nodes: &[u8],
-    pairs: &[u8],
-    input: &[u8],
-    t: Token,
-    list: &[u16],
-    size: usize,
-    first: usize,
-) -> usize
-    requires { (first ≤ size) × (size ≤ length list.now) }
-    ensures { result ≡ how_many (same_tag nodes.now pairs.now t.name (pairs_in input.now t.from t.count)) (drop first (take size list.now)) }
+// How many of the entries have the tag.
+fn how_many(b: &Builder<'_>, t: Token<'_>, entries: &[u16]) -> usize
+    ensures { result ≡ how_many (same_tag (full_of b.now).nodes.mem (full_of b.now).pairs.mem t.entry.name (pairs_in t.entry.attributes.input.now t.entry.attributes.from t.entry.attributes.count)) entries.now }
 {
     let mut n: usize = 0;
-    let mut i = first;
-    while i < size {
-        n += one_if(tags::is_same_tag(nodes, pairs, input, t, Node(list[i])));
-        i += 1;
+    for &entry in entries {
+        n += usize::from(tags::is_same_tag(b.nodes, b.pairs, t, Node(entry)));
     }
     n
 }
 
-// Entry i, if it has the tag.
-fn same_at(nodes: &[u8], pairs: &[u8], input: &[u8], t: Token, list: &[u16], i: usize) -> Found
-    requires { i < length list.now }
-    ensures { result ≡ cond (same_tag nodes.now pairs.now t.name (pairs_in input.now t.from t.count) (get_or list.now i 0)) (At i) Nothing }
+// The first entry from `first` on that has the tag. All are looked at: `first_of` alone says which of two stays.
+fn first_same(b: &Builder<'_>, t: Token<'_>, first: usize) -> Option<usize>
+    requires first { first ≤ (full_of b.now).list.size }
+    requires whole { Whole (full_of b.now).list }
+    ensures { result ≡ first_with (same_tag (full_of b.now).nodes.mem (full_of b.now).pairs.mem t.entry.name (pairs_in t.entry.attributes.input.now t.entry.attributes.from t.entry.attributes.count)) (drop first (full_of b.now).list.held) first }
 {
-    if tags::is_same_tag(nodes, pairs, input, t, Node(list[i])) {
-        return Found::At(i);
-    }
-    Found::Nothing
-}
-
-// The first entry from `first` on that has the tag.
-fn first_same(
-    nodes: &[u8],
-    pairs: &[u8],
-    input: &[u8],
-    t: Token,
-    list: &[u16],
-    size: usize,
-    first: usize,
-) -> Found
-    requires { (first ≤ size) × (size ≤ length list.now) }
-    ensures { result ≡ first_with (same_tag nodes.now pairs.now t.name (pairs_in input.now t.from t.count)) (drop first (take size list.now)) first }
-{
-    let mut found = Found::Nothing;
-    let mut i = first;
-    while i < size {
-        let here = same_at(nodes, pairs, input, t, list, i);
+    let mut found = None;
+    for i in first..b.core.counts.list {
+        let same = tags::is_same_tag(b.nodes, b.pairs, t, Node(b.list[i]));
+        let here = same.then_some(i);
         found = places::first_of(found, here);
-        i += 1;
     }
     found
 }
 
+/// The entry that a further element with the new tag drives out: 13.2.4.3, "push onto the list of active formatting elements", step 1.
 #[tactic(auto, using(crate::proofs::SurplusLaws::surplus_none, crate::proofs::SurplusLaws::surplus_at))]
-pub fn surplus(
-    nodes: &[u8],
-    pairs: &[u8],
-    input: &[u8],
-    t: Token,
-    list: &[u16],
-    size: usize,
-) -> Found
-    requires { size ≤ length list.now }
-    ensures { result ≡ def.surplus (same_tag nodes.now pairs.now t.name (pairs_in input.now t.from t.count)) (places_of list.now size) }
+pub fn surplus(b: &Builder<'_>, t: Token<'_>) -> Option<usize>
+    requires { Whole (full_of b.now).list }
+    ensures { result ≡ def.surplus (same_tag (full_of b.now).nodes.mem (full_of b.now).pairs.mem t.entry.name (pairs_in t.entry.attributes.input.now t.entry.attributes.from t.entry.attributes.count)) (full_of b.now).list }
 {
-    let first = after_marker(list, size);
-    if how_many(nodes, pairs, input, t, list, size, first) < 3 {
-        return Found::Nothing;
+    let first = after_marker(b);
+    let entries = &b.list[first..b.core.counts.list];
+    if how_many(b, t, entries) < 3 {
+        return None;
     }
-    first_same(nodes, pairs, input, t, list, size, first)
+    first_same(b, t, first)
 }

@@ -1,39 +1,28 @@
 // When the tag of an entry is equal to a new one: the same name, and the same pairs in order.
-ghost use Rattle.std.specs.Prelude.{◌≡◌, ◌<◌, ◌≤◌};
-ghost use Rattle.lent.specs.Mem.{PAIRS, load};
+ghost use Rattle.std.specs.Prelude.{◌≡◌, ◌≤◌};
 ghost use Rattle.standard.specs.Pairs.{pairs_in};
 ghost use Rattle.standard.specs.Formatting.{pairs_of, same_pairs, same_tag};
 
+use lent::wide::pair_field;
 use lent::{Node, Pair};
+use records::attributes::Attributes;
 
-// A new tag as its record has it: the name, where the pairs begin, and how many they are.
+/// A new tag as its record has it: the name and the attribute pairs.
 #[derive(Clone, Copy)]
-pub struct Token {
+pub struct Token<'a> {
     pub name: u16,
-    pub from: usize,
-    pub count: u16,
-}
-
-// Field f of pair n, for any n: no pair is past the largest number.
-fn pair_field(pairs: &[u8], n: usize, f: usize) -> u16
-    requires { f < 2 }
-    ensures { result ≡ load PAIRS pairs.now n f }
-{
-    if n < Pair::MOST {
-        return lent::get_pair(pairs, n as u16, f);
-    }
-    0
+    pub attributes: Attributes<'a>,
 }
 
 // The stored pairs from `start` on are those of the record.
-fn are_same(pairs: &[u8], start: usize, input: &[u8], from: usize, count: usize) -> bool
-    requires { (start ≤ 65535) × (count ≤ 65535) }
-    ensures { result ≡ same_pairs (pairs_of pairs.now start count) (pairs_in input.now from count) }
+#[tactic(auto, using(crate::proofs::TagLaws::other_name, crate::proofs::TagLaws::other_text, crate::proofs::TagLaws::same_end))]
+fn are_same(pairs: &[u8], start: usize, attributes: Attributes<'_>) -> bool
+    requires start { start ≤ 65535 }
+    ensures { result ≡ same_pairs (pairs_of pairs.now start attributes.entry.count) (pairs_in attributes.entry.input.now attributes.entry.from attributes.entry.count) }
 {
-    let mut at = from;
-    let mut i: usize = 0;
-    while i < count {
-        let p = records::pair_at(input, at);
+    let mut at = attributes.from;
+    for i in 0..usize::from(attributes.count) {
+        let p = records::pair_at(attributes.input, at);
         if pair_field(pairs, start + i, Pair::NAME) != p.name {
             return false;
         }
@@ -41,21 +30,21 @@ fn are_same(pairs: &[u8], start: usize, input: &[u8], from: usize, count: usize)
             return false;
         }
         at = p.next;
-        i += 1;
     }
     true
 }
 
-// Entry n has the new tag.
-pub fn is_same_tag(nodes: &[u8], pairs: &[u8], input: &[u8], t: Token, n: Node) -> bool
-    ensures { result ≡ same_tag nodes.now pairs.now t.name (pairs_in input.now t.from t.count) n.0 }
+/// Whether entry n has the new tag: 13.2.4.3, "push onto the list of active formatting elements", step 1.
+#[tactic(auto, using(crate::proofs::TagLaws::tag_name, crate::proofs::TagLaws::tag_count, crate::proofs::TagLaws::tag_pairs))]
+pub fn is_same_tag(nodes: &[u8], pairs: &[u8], t: Token<'_>, n: Node) -> bool
+    ensures { result ≡ same_tag nodes.now pairs.now t.entry.name (pairs_in t.entry.attributes.input.now t.entry.attributes.from t.entry.attributes.count) n.0 }
 {
     if lent::get(nodes, n, Node::NAME) != t.name {
         return false;
     }
-    if lent::get(nodes, n, Node::COUNT) != t.count {
+    if lent::get(nodes, n, Node::COUNT) != t.attributes.count {
         return false;
     }
-    let start = lent::get(nodes, n, Node::START);
-    are_same(pairs, start as usize, input, t.from, t.count as usize)
+    let start = usize::from(lent::get(nodes, n, Node::START));
+    are_same(pairs, start, t.attributes)
 }

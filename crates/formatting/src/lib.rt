@@ -1,182 +1,113 @@
 #![tactic(auto)]
 // Call 4: an element is created for a formatting tag, and pushed onto the list of active formatting elements (13.2.4.3).
-ghost use Rattle.std.specs.Prelude.{◌≡◌, false, not, List, ltb, ℕ, ◌<◌, ◌≤◌, length};
-ghost use Rattle.places.specs.Places.{places_of, left_at};
-ghost use Rattle.places.specs.declared.Found.{Found};
-ghost use Rattle.places.specs.declared.Found.TheVariants.{At};
-ghost use Rattle.lent.specs.Room.{free_nodes};
-ghost use Rattle.state.specs.declared.Context.{Context};
-ghost use Rattle.state.specs.Full.{full, result_of};
+ghost use Rattle.std.specs.Prelude.{◌≡◌, ◌<◌, ◌+◌, false, length, not, ltb};
+ghost use Rattle.std.specs.Option.{ForSome};
+ghost use Rattle.places.specs.Places.{Whole, left_at};
+ghost use Rattle.records.specs.Refusal.{answer_number};
+ghost use Rattle.state.specs.Builder.{SameLoans, full_of};
+ghost use Rattle.state.specs.Full.{result_of};
+ghost use Rattle.state.specs.Open.{Open};
 ghost use Rattle.standard.specs.Small.{room};
-ghost use Rattle.names.specs.Space as space;
-ghost use Rattle.standard.specs.Insertion.{inserted_element};
 ghost use Rattle.standard.specs.Formatting.{listed, bad_formatting, created_for, created};
 
 use entries::surplus;
 use entries::tags::Token;
-use names::{Namespace, sets};
-use places::Found;
-use state::{Core, Counts, Done, Stack};
+use insertion::room;
+use lent::Node;
+use names::Namespace;
+use names::sets::Set;
+use records::attributes::Attributes;
+use records::refusal::Refusal;
+use state::builder::Builder;
+use state::{Counts, Stack};
 
 // The flags of call 1: push, and no mark.
 const PUSH: u16 = 1;
 
-// The answer is 2.
-fn is_bad(input: &[u8], name: u16, from: usize, count: u16) -> bool
-    ensures { result ≡ bad_formatting input.now name from count }
+// The name or the pairs are refused as unknown.
+#[tactic(auto, unfolding(standard::specs::Formatting::bad_formatting))]
+fn is_bad(name: u16, pairs: Attributes<'_>) -> bool
+    ensures { result ≡ bad_formatting pairs.entry.input.now name pairs.entry.from pairs.entry.count }
 {
-    if !sets::is_formatting(Namespace::HTML, name) {
-        return true;
-    }
-    if 16 < count {
-        return true;
-    }
-    !insertion::pairs::are_fine(input, from, count as usize)
+    !Set::Formatting.has(Namespace::HTML, name) || insertion::pairs::are_bad(pairs)
 }
 
 // The list has no room for one more, when the surplus entry has left.
-fn is_full(list: &[u16], size: usize, extra: Found) -> bool
-    requires { (size ≤ length list.now) × ((i : ℕ) → extra ≡ At i → i < size) }
-    ensures { result ≡ not (ltb (left_at extra (places_of list.now size)).size (room 256 (left_at extra (places_of list.now size)))) }
+#[tactic(auto, using(crate::proofs::Laws::left_room, crate::proofs::Laws::size_some, crate::proofs::Laws::size_none))]
+fn is_full(b: &Builder<'_>, extra: Option<usize>) -> bool
+    requires whole { Whole (full_of b.now).list }
+    requires extra { ForSome extra (λ i. i < (full_of b.now).list.size) }
+    ensures { result ≡ not (ltb (left_at extra (full_of b.now).list).size (room 256 (left_at extra (full_of b.now).list))) }
 {
-    let most = lent::least(list.len(), Counts::LIST);
+    let size = b.core.counts.list;
+    let most = b.list.len().min(Counts::LIST);
     match extra {
-        Found::At(_) => most <= size - 1,
-        Found::Nothing => most <= size,
+        Some(_) => most <= size - 1,
+        None => most <= size,
     }
 }
 
 // The surplus entry leaves the list, and n comes in.
-fn enlist(core: Core, list: &mut [u16], extra: Found, n: u16) -> Core
-    requires list_in_bounds { (core.counts.list ≤ length list.old) × ((i : ℕ) → extra ≡ At i → i < core.counts.list) }
-    requires room_in_list { (left_at extra (places_of list.old core.counts.list)).size < length list.old }
-    ensures { (s n' m p q : List ℕ) (x : Context) → full s result x n' list.new m p q ≡ listed (full s core x n' list.old m p q) (left_at extra (places_of list.old core.counts.list)) n }
+#[tactic(auto, unfolding(standard::specs::Formatting::listed, places::specs::Places::left_at, state::specs::Full::with_list, state::specs::Fields::set_list, state::specs::Fields::set_counts))]
+fn enlist(b: &mut Builder<'_>, extra: Option<usize>, n: Node)
+    requires whole { Whole (full_of b.old).list }
+    requires extra { ForSome extra (λ i. i < (full_of b.old).list.size) }
+    requires room { (left_at extra (full_of b.old).list).size < length (full_of b.old).list.held + length (full_of b.old).list.free }
+    ensures loans { SameLoans b.old b.new }
+    ensures outcome { full_of b.new ≡ listed (full_of b.old) (left_at extra (full_of b.old).list) n.0 }
 {
-    let size = core.counts.list;
-    match extra {
-        Found::At(i) => {
-            let less = places::remove_at(list, size, i);
-            core.with_list(places::push(list, less, n))
-        }
-        Found::Nothing => core.with_list(places::push(list, size, n)),
-    }
+    let size = b.core.counts.list;
+    let less = match extra {
+        Some(i) => places::remove_at(b.list, size, i),
+        None => size,
+    };
+    let more = places::push(b.list, less, n.0);
+    b.core = b.core.with_list(more);
 }
 
-// The element is inserted and pushed, as call 1 does it.
-fn insert(
-    h: &mut [u16],
-    core: Core,
-    nodes: &mut [u8],
-    pairs: &mut [u8],
-    input: &[u8],
-    t: Token,
-) -> Done
-    requires depth_nonzero { (0 < core.depth) × (core.depth ≤ 512) × (length h.old ≡ 512) }
-    requires pairs_bound { core.counts.pairs ≤ 4096 }
-    ensures { (l m w : List ℕ) (x : Context) → result_of result.answer (full h.new result.core x nodes.new l m w pairs.new) ≡ inserted_element input.now (full h.old core x nodes.old l m w pairs.old) space.html t.name 1 t.from t.count }
+// The element is inserted, pushed and listed, or nodes, places or pairs are full.
+#[tactic(auto, using(crate::proofs::Laws::element_case, crate::proofs::Laws::extra_below, crate::proofs::Laws::left_fits, records::proofs::Refusals::number_of_some), unfolding(standard::specs::Formatting::created_for, standard::specs::Formatting::created_room, standard::specs::Formatting::spared, standard::specs::Insertion::new_tag))]
+fn create_listed(b: &mut Builder<'_>, t: Token<'_>) -> Result<(), Refusal>
+    requires open { Open (full_of b.old) }
+    requires whole { Whole (full_of b.old).list }
+    requires good { bad_formatting t.attributes.input.now t.name t.attributes.from t.attributes.count ≡ false }
+    ensures loans { SameLoans b.old b.new }
+    ensures outcome { result_of (answer_number result) (full_of b.new) ≡ created_for t.entry.attributes.input.now (full_of b.old) t.entry.name t.entry.attributes.from t.entry.attributes.count }
 {
-    insertion::element(
-        h,
-        core,
-        nodes,
-        pairs,
-        input,
-        Namespace::HTML,
-        t.name,
-        PUSH,
-        t.from,
-        t.count,
-    )
+    let n = room::next_node(b)?;
+    if Stack::PLACES <= b.core.depth {
+        return Err(Refusal::StackFull);
+    }
+    let extra = surplus::surplus(b, t);
+    if is_full(b, extra) {
+        return Err(Refusal::PlacesFull);
+    }
+    insertion::element(b, Namespace::HTML, t.name, PUSH, t.attributes)?;
+    enlist(b, extra, n);
+    Ok(())
 }
 
-// Answers 6 and 8, and the call done, where a node and a place of the stack are free.
-fn create_listed(
-    h: &mut [u16],
-    core: Core,
-    nodes: &mut [u8],
-    pairs: &mut [u8],
-    list: &mut [u16],
-    input: &[u8],
-    t: Token,
-) -> Done
-    requires depth_nonzero { (0 < core.depth) × (core.depth < 512) × (length h.old ≡ 512) }
-    requires list_in_bounds { (core.counts.list ≤ length list.old) × (core.counts.pairs ≤ 4096) × (bad_formatting input.now t.name t.from t.count ≡ false) × (free_nodes nodes.old core.counts.nodes ≡ 0 → ⊥) }
-    ensures { (m w : List ℕ) (x : Context) → result_of result.answer (full h.new result.core x nodes.new list.new m w pairs.new) ≡ created_for input.now (full h.old core x nodes.old list.old m w pairs.old) t.name t.from t.count }
-{
-    let size = core.counts.list;
-    let n = lent::room::next(core.counts.nodes);
-    let extra = surplus::surplus(nodes, pairs, input, t, list, size);
-    if is_full(list, size, extra) {
-        return Done {
-            answer: 6,
-            core: core,
-        };
-    }
-    let r = insert(h, core, nodes, pairs, input, t);
-    if r.answer != 0 {
-        return r;
-    }
-    Done {
-        answer: 0,
-        core: enlist(r.core, list, extra, n),
-    }
-}
-
-// Answers 4 and 5, and the rest.
-fn create_room(
-    h: &mut [u16],
-    core: Core,
-    nodes: &mut [u8],
-    pairs: &mut [u8],
-    list: &mut [u16],
-    input: &[u8],
-    t: Token,
-) -> Done
-    requires depth_nonzero { (0 < core.depth) × (core.depth ≤ 512) × (length h.old ≡ 512) }
-    requires list_in_bounds { (core.counts.list ≤ length list.old) × (core.counts.pairs ≤ 4096) × (bad_formatting input.now t.name t.from t.count ≡ false) }
-    ensures { (m w : List ℕ) (x : Context) → result_of result.answer (full h.new result.core x nodes.new list.new m w pairs.new) ≡ created_for input.now (full h.old core x nodes.old list.old m w pairs.old) t.name t.from t.count }
-{
-    if lent::room::free_nodes(nodes, core.counts.nodes) == 0 {
-        return Done {
-            answer: 4,
-            core: core,
-        };
-    }
-    if Stack::PLACES <= core.depth {
-        return Done {
-            answer: 5,
-            core: core,
-        };
-    }
-    create_listed(h, core, nodes, pairs, list, input, t)
-}
-
-// 4
+/// Call 4, an element for a formatting tag: 13.2.4.3, "push onto the list of active formatting elements". The element, with the attribute
+/// pairs of its record, is inserted and pushed as by call 1, and comes onto the list; of three equal ones after the
+/// last marker the earliest leaves it. `Unknown` for a name that is no formatting name and for pairs as in call 1; `NodesFull`, `StackFull`,
+/// `PlacesFull` and `PairsFull` where there is no room.
+#[tactic(auto, unfolding(standard::specs::Formatting::created))]
 pub fn create_formatting_element_for(
-    h: &mut [u16],
-    core: Core,
-    nodes: &mut [u8],
-    pairs: &mut [u8],
-    list: &mut [u16],
-    input: &[u8],
+    b: &mut Builder<'_>,
     name: u16,
-    from: usize,
-    count: u16,
-) -> Done
-    requires depth_nonzero { (0 < core.depth) × (core.depth ≤ 512) × (length h.old ≡ 512) }
-    requires list_in_bounds { (core.counts.list ≤ length list.old) × (core.counts.pairs ≤ 4096) }
-    ensures { (m w : List ℕ) (x : Context) → result_of result.answer (full h.new result.core x nodes.new list.new m w pairs.new) ≡ created input.now (full h.old core x nodes.old list.old m w pairs.old) name from count }
+    pairs: Attributes<'_>,
+) -> Result<(), Refusal>
+    requires open { Open (full_of b.old) }
+    requires whole { Whole (full_of b.old).list }
+    ensures loans { SameLoans b.old b.new }
+    ensures outcome { result_of (answer_number result) (full_of b.new) ≡ created pairs.entry.input.now (full_of b.old) name pairs.entry.from pairs.entry.count }
 {
-    if is_bad(input, name, from, count) {
-        return Done {
-            answer: 2,
-            core: core,
-        };
+    if is_bad(name, pairs) {
+        return Err(Refusal::Unknown);
     }
     let t = Token {
-        name: name,
-        from: from,
-        count: count,
+        name,
+        attributes: pairs,
     };
-    create_room(h, core, nodes, pairs, list, input, t)
+    create_listed(b, t)
 }

@@ -1,141 +1,132 @@
 #![tactic(auto)]
 // Calls 1 (element), 2 (text) and 3 (comment): 13.2.6.1.
-ghost use Rattle.std.specs.Prelude.{◌≡◌, List, true, not, ◌&&◌, ltb, ℕ, ◌<◌, ◌≤◌, length};
-ghost use Rattle.state.specs.declared.Context.{Context};
-ghost use Rattle.state.specs.Full.{full, result_of};
+ghost use Rattle.std.specs.Prelude.{◌≡◌, true, not, ◌&&◌, ltb, ◌<◌, ◌≤◌, ◌+◌, length, IfOk, IfErr, OnOk};
+ghost use Rattle.places.specs.Places.{Whole};
+ghost use Rattle.records.specs.Refusal.{answer_number};
+ghost use Rattle.records.specs.declared.refusal.Refusal.TheVariants.{Unknown};
+ghost use Rattle.state.specs.Builder.{SameLoans, full_of};
+ghost use Rattle.state.specs.Full.{result_of};
+ghost use Rattle.state.specs.Open.{Open};
 ghost use Rattle.standard.specs.Pairs.{pairs_in};
-ghost use Rattle.standard.specs.Insertion.{is_markable, bad_tag, bad_pairs, element_in, pushed_if, new_text, joined_text, element_room, comment_at, usual_place};
+ghost use Rattle.standard.specs.Place as place_def;
+ghost use Rattle.standard.specs.Insertion.{is_markable, bad_tag, element_in, pushed_if, new_text, joined_text, element_room, comment_at, comment_place};
 ghost use Rattle.standard.specs.Insertion as def;
 
 pub mod pairs;
+pub mod room;
 
 use lent::Node;
 use location::place;
 use makers::make::Tag;
 use names::{Namespace, tag};
+use records::attributes::Attributes;
+use records::refusal::Refusal;
 use standard::Place;
-use state::{Core, Done, Stack};
-
-// The place that a call without a target of its own takes.
-fn usual_place(nodes: &[u8], h: &[u16], core: Core) -> Place
-    requires { (0 < core.depth) × (core.depth ≤ length h.now) }
-    ensures { (l m p q : List ℕ) (x : Context) → result ≡ usual_place (full h.now core x nodes.now l m p q) }
-{
-    let depth = core.depth;
-    let i = depth - 1;
-    place::appropriate_place_for_insertion(nodes, h, depth, core.flags.foster, Node(h[i]))
-}
+use state::Stack;
+use state::builder::Builder;
 
 // Text joined to text node n.
-fn join_text(core: Core, nodes: &mut [u8], pieces: &mut [u8], n: Node, number: u16) -> Done
-    ensures { (s l m q : List ℕ) (x : Context) → result_of result.answer (full s result.core x nodes.new l m pieces.new q) ≡ joined_text (full s core x nodes.old l m pieces.old q) n.0 number }
+#[tactic(auto, unfolding(standard::specs::Insertion::joined_text, state::specs::Full::with_pieces, state::specs::Fields::set_pieces, state::specs::Full::with_nodes, state::specs::Fields::set_counts))]
+fn join_text(b: &mut Builder<'_>, n: Node, number: u16) -> Result<(), Refusal>
+    ensures loans { SameLoans b.old b.new }
+    ensures outcome { result_of (answer_number result) (full_of b.new) ≡ joined_text (full_of b.old) n.0 number }
 {
-    let used = core.counts.pieces;
-    if lent::room::free_pieces(pieces, used) == 0 {
-        return Done {
-            answer: 7,
-            core: core,
-        };
-    }
-    let i = lent::room::next(used);
-    makers::make::add_piece(nodes, pieces, n, i, number);
-    Done {
-        answer: 0,
-        core: core.with_pieces(used + 1),
-    }
+    let i = room::next_piece(b)?;
+    makers::make::add_piece(b.nodes, b.pieces, n, i, number);
+    b.core = b.core.with_pieces(usize::from(i));
+    Ok(())
 }
 
 // Text as a new node at a place.
-fn new_text(core: Core, nodes: &mut [u8], pieces: &mut [u8], p: Place, number: u16) -> Done
-    ensures { (s l m q : List ℕ) (x : Context) → result_of result.answer (full s result.core x nodes.new l m pieces.new q) ≡ new_text (full s core x nodes.old l m pieces.old q) p number }
+#[tactic(auto, unfolding(standard::specs::Insertion::new_text, state::specs::Full::with_nodes, state::specs::Fields::set_nodes, state::specs::Fields::set_counts, state::specs::Full::with_pieces, state::specs::Fields::set_pieces))]
+fn new_text(b: &mut Builder<'_>, p: Place, number: u16) -> Result<(), Refusal>
+    ensures loans { SameLoans b.old b.new }
+    ensures outcome { result_of (answer_number result) (full_of b.new) ≡ new_text (full_of b.old) p number }
 {
-    let used = core.counts.nodes;
-    if lent::room::free_nodes(nodes, used) == 0 {
-        return Done {
-            answer: 4,
-            core: core,
-        };
-    }
-    let size = core.counts.pieces;
-    if lent::room::free_pieces(pieces, size) == 0 {
-        return Done {
-            answer: 7,
-            core: core,
-        };
-    }
-    let n = lent::room::next(used);
-    let i = lent::room::next(size);
-    makers::make::make_text(nodes, pieces, Node(n), i, number);
-    place::attach(nodes, p, Node(n));
-    Done {
-        answer: 0,
-        core: core.with_nodes(used + 1).with_pieces(size + 1),
-    }
+    let n = room::next_node(b)?;
+    let i = room::next_piece(b)?;
+    makers::make::make_text(b.nodes, b.pieces, n, i, number);
+    place::attach(b.nodes, p, n);
+    b.core = b
+        .core
+        .with_nodes(usize::from(n.0))
+        .with_pieces(usize::from(i));
+    Ok(())
 }
 
-// 2
-pub fn text(h: &[u16], core: Core, nodes: &mut [u8], pieces: &mut [u8], number: u16) -> Done
-    requires { (0 < core.depth) × (core.depth ≤ length h.now) }
-    ensures { (l m q : List ℕ) (x : Context) → result_of result.answer (full h.now result.core x nodes.new l m pieces.new q) ≡ def.inserted_text (full h.now core x nodes.old l m pieces.old q) number }
+// The text node directly before the place, 0 if there is none.
+fn text_before(b: &Builder<'_>, p: Place) -> u16
+    ensures { result ≡ place_def.text_before (full_of b.now).nodes.mem p }
 {
-    let p = usual_place(nodes, h, core);
-    let b = place::text_before(nodes, p);
-    if b == Node::NONE {
-        return new_text(core, nodes, pieces, p, number);
+    place::text_before(b.nodes, p)
+}
+
+/// Call 2, text: 13.2.6.1, "insert a character", for a text number. Text directly before the place gets a further piece; else a text node
+/// is made. `NodesFull` where no node is free, `PiecesFull` where no piece is.
+#[tactic(auto, unfolding(standard::specs::Insertion::inserted_text, standard::specs::Insertion::text_at))]
+pub fn text(b: &mut Builder<'_>, number: u16) -> Result<(), Refusal>
+    requires some { 0 < (full_of b.old).stack.size }
+    requires whole { Whole (full_of b.old).stack }
+    ensures loans { SameLoans b.old b.new }
+    ensures outcome { result_of (answer_number result) (full_of b.new) ≡ def.inserted_text (full_of b.old) number }
+{
+    let p = place::usual_place(b);
+    let before = text_before(b, p);
+    if before == Node::NONE {
+        return new_text(b, p, number);
     }
-    join_text(core, nodes, pieces, Node(b), number)
+    join_text(b, Node(before), number)
 }
 
 // A comment at a place.
-fn comment_at(core: Core, nodes: &mut [u8], p: Place, number: u16) -> Done
-    ensures { (s l m w q : List ℕ) (x : Context) → result_of result.answer (full s result.core x nodes.new l m w q) ≡ comment_at (full s core x nodes.old l m w q) p number }
+#[tactic(auto, unfolding(standard::specs::Insertion::comment_at, state::specs::Full::with_nodes, state::specs::Fields::set_nodes, state::specs::Fields::set_counts))]
+fn comment_at(b: &mut Builder<'_>, p: Place, number: u16) -> Result<(), Refusal>
+    ensures loans { SameLoans b.old b.new }
+    ensures outcome { result_of (answer_number result) (full_of b.new) ≡ comment_at (full_of b.old) p number }
 {
-    let used = core.counts.nodes;
-    if lent::room::free_nodes(nodes, used) == 0 {
-        return Done {
-            answer: 4,
-            core: core,
-        };
-    }
-    let n = lent::room::next(used);
-    makers::make::make_comment(nodes, Node(n), number);
-    place::attach(nodes, p, Node(n));
-    Done {
-        answer: 0,
-        core: core.with_nodes(used + 1),
-    }
+    let n = room::next_node(b)?;
+    makers::make::make_comment(b.nodes, n, number);
+    place::attach(b.nodes, p, n);
+    b.core = b.core.with_nodes(usize::from(n.0));
+    Ok(())
 }
 
-// 3
-pub fn comment(h: &[u16], core: Core, nodes: &mut [u8], at: u16, number: u16) -> Done
-    requires { (0 < core.depth) × (core.depth ≤ length h.now) }
-    ensures { (l m w q : List ℕ) (x : Context) → result_of result.answer (full h.now result.core x nodes.new l m w q) ≡ def.inserted_comment (full h.now core x nodes.old l m w q) at number }
+// The place that a number of call 3 stands for.
+#[tactic(auto, unfolding(standard::specs::Insertion::comment_place))]
+fn comment_place(b: &Builder<'_>, at: u16) -> Result<Place, Refusal>
+    requires some { 0 < (full_of b.now).stack.size }
+    requires whole { Whole (full_of b.now).stack }
+    ensures place { IfOk result (λ p. p ≡ comment_place (full_of b.now) at) }
+    ensures known { OnOk result (at ≤ 2) }
+    ensures unknown { IfErr result (λ e. (e ≡ Unknown) × (2 < at)) }
 {
     match at {
-        0 => {
-            let p = usual_place(nodes, h, core);
-            comment_at(core, nodes, p, number)
-        }
-        1 => comment_at(core, nodes, Place::End(Node(Node::ROOT)), number),
-        2 => comment_at(core, nodes, Place::End(Node(Node::DOCUMENT)), number),
-        _ => Done {
-            answer: 2,
-            core: core,
-        },
+        0 => Ok(place::usual_place(b)),
+        1 => Ok(Place::End(Node(Node::ROOT))),
+        2 => Ok(Place::End(Node(Node::DOCUMENT))),
+        _ => Err(Refusal::Unknown),
     }
 }
 
-// The answer is 2 for the tag.
+/// Call 3, comment: 13.2.6.1, "insert a comment", for a text number. The place is the appropriate one (0), the end of the root (1) or the
+/// end of the document (2). `Unknown` for any other number, `NodesFull` where no node is free.
+#[tactic(auto, unfolding(standard::specs::Insertion::inserted_comment))]
+pub fn comment(b: &mut Builder<'_>, at: u16, number: u16) -> Result<(), Refusal>
+    requires some { 0 < (full_of b.old).stack.size }
+    requires whole { Whole (full_of b.old).stack }
+    ensures loans { SameLoans b.old b.new }
+    ensures outcome { result_of (answer_number result) (full_of b.new) ≡ def.inserted_comment (full_of b.old) at number }
+{
+    let p = comment_place(b, at)?;
+    comment_at(b, p, number)
+}
+
+// The tag is refused as unknown.
+#[tactic(auto, unfolding(standard::specs::Insertion::bad_tag))]
 fn bad_tag(ns: u16, name: u16, flags: u16) -> bool
     ensures { result ≡ bad_tag ns name flags }
 {
-    if Namespace::SVG < ns {
-        return true;
-    }
-    if !names::is_name(name) {
-        return true;
-    }
-    if 3 < flags {
+    if Namespace::SVG < ns || !names::is_name(name) || 3 < flags {
         return true;
     }
     if flags / 2 == 1 {
@@ -144,146 +135,115 @@ fn bad_tag(ns: u16, name: u16, flags: u16) -> bool
     ns == Namespace::HTML && name == tag::HTML
 }
 
+/// Only a MathML annotation-xml can have a mark.
+#[tactic(auto, unfolding(standard::specs::Insertion::is_markable))]
 pub fn is_markable(ns: u16, name: u16) -> bool
     ensures { result ≡ is_markable ns name }
 {
     ns == Namespace::MATHML && name == tag::ANNOTATION_XML
 }
 
-// The answer is 2 for the attributes.
-fn bad_pairs(input: &[u8], from: usize, count: u16) -> bool
-    ensures { result ≡ bad_pairs input.now from count }
+// The next node is made, its attributes stored, and it is put at its place.
+#[tactic(auto, using(crate::proofs::Laws::nodes_some, lent::proofs::Lowest::fresh_is), unfolding(standard::specs::Insertion::element_in, state::specs::Full::with_nodes, state::specs::Full::with_pairs, state::specs::Fields::set_nodes, state::specs::Fields::set_pairs, state::specs::Fields::set_counts))]
+fn element_in(b: &mut Builder<'_>, t: Tag, pairs: Attributes<'_>) -> Node
+    requires open { Open (full_of b.old) }
+    requires nodes { (full_of b.old).nodes.used < 4096 }
+    requires count { pairs.count ≤ 16 }
+    ensures number { result.0 ≡ (full_of b.old).nodes.used + 1 }
+    ensures loans { SameLoans b.old b.new }
+    ensures outcome { full_of b.new ≡ element_in (full_of b.old) t (pairs_in pairs.entry.input.now pairs.entry.from pairs.entry.count) }
+    ensures places { length (full_of b.new).stack.free ≡ length (full_of b.old).stack.free }
+    ensures list { (full_of b.new).list ≡ (full_of b.old).list }
 {
-    if 16 < count {
-        return true;
-    }
-    !pairs::are_fine(input, from, count as usize)
-}
-
-// The element is made, its attributes stored, and it is put at its place.
-fn element_in(
-    h: &[u16],
-    core: Core,
-    nodes: &mut [u8],
-    pairs: &mut [u8],
-    input: &[u8],
-    t: Tag,
-    from: usize,
-) -> Core
-    requires depth_nonzero { (0 < core.depth) × (core.depth ≤ length h.now) }
-    requires counts_in_bounds { (core.counts.nodes < 4096) × (core.counts.pairs ≤ 4096) × (t.count ≤ 16) }
-    ensures { (l m w : List ℕ) (x : Context) → full h.now result x nodes.new l m w pairs.new ≡ element_in (full h.now core x nodes.old l m w pairs.old) t (pairs_in input.now from t.count) }
-{
-    let used = core.counts.nodes;
-    let stored = core.counts.pairs;
-    let p = usual_place(nodes, h, core);
-    let n = lent::room::next(used);
-    makers::make::make_element(nodes, Node(n), t);
-    place::attach(nodes, p, Node(n));
-    let count = t.count as usize;
-    pairs::store(pairs, stored, input, from, count);
-    core.with_nodes(used + t.nodes()).with_pairs(stored + count)
+    let used = b.core.counts.nodes;
+    let stored = b.core.counts.pairs;
+    let p = place::usual_place(b);
+    let n = Node(lent::room::next(used));
+    makers::make::make_element(b.nodes, n, t);
+    place::attach(b.nodes, p, n);
+    pairs::store(b.pairs, stored, pairs);
+    b.core = b
+        .core
+        .with_nodes(used + t.nodes())
+        .with_pairs(stored + usize::from(t.count));
+    n
 }
 
 // The node is pushed, if it is to be.
-fn push_if(h: &mut [u16], core: Core, push: bool, n: u16) -> Core
-    requires { push ≡ true → core.depth < length h.old }
-    ensures { (n' l m w q : List ℕ) (x : Context) → full h.new result x n' l m w q ≡ pushed_if push (full h.old core x n' l m w q) n }
+#[tactic(auto, unfolding(standard::specs::Insertion::pushed_if, state::specs::Full::with_stack, state::specs::Fields::set_depth))]
+fn push_if(b: &mut Builder<'_>, push: bool, n: Node)
+    requires { push ≡ true → 0 < length (full_of b.old).stack.free }
+    ensures loans { SameLoans b.old b.new }
+    ensures outcome { full_of b.new ≡ pushed_if push (full_of b.old) n.0 }
+    ensures list { (full_of b.new).list ≡ (full_of b.old).list }
 {
     if push {
-        let size = places::push(h, core.depth, n);
-        return core.with_depth(size);
+        let size = places::push(b.stack, b.core.depth, n.0);
+        b.core = b.core.with_depth(size);
     }
-    core
 }
 
 // A push finds no place.
 fn is_full(push: bool, depth: usize) -> bool
     ensures { result ≡ push && not (ltb depth 512) }
 {
-    if push {
-        return Stack::PLACES <= depth;
-    }
-    false
+    push && Stack::PLACES <= depth
 }
 
-// Answers 4, 5 and 8, and the call done.
+// The element is made and pushed, or nodes, places or pairs are full.
+#[tactic(auto, using(crate::proofs::Laws::nodes_some), unfolding(standard::specs::Insertion::element_room, standard::specs::Insertion::element_done))]
 fn element_room(
-    h: &mut [u16],
-    core: Core,
-    nodes: &mut [u8],
-    pairs: &mut [u8],
-    input: &[u8],
+    b: &mut Builder<'_>,
     t: Tag,
-    from: usize,
+    pairs: Attributes<'_>,
     push: bool,
-) -> Done
-    requires depth_nonzero { (0 < core.depth) × (core.depth ≤ 512) × (length h.old ≡ 512) }
-    requires count_bound { (t.count ≤ 16) × (core.counts.pairs ≤ 4096) }
-    ensures { (l m w : List ℕ) (x : Context) → result_of result.answer (full h.new result.core x nodes.new l m w pairs.new) ≡ element_room (full h.old core x nodes.old l m w pairs.old) t (pairs_in input.now from t.count) push }
+) -> Result<(), Refusal>
+    requires open { Open (full_of b.old) }
+    requires count { pairs.count ≤ 16 }
+    ensures loans { SameLoans b.old b.new }
+    ensures outcome { result_of (answer_number result) (full_of b.new) ≡ element_room (full_of b.old) t (pairs_in pairs.entry.input.now pairs.entry.from pairs.entry.count) push }
+    ensures list { (full_of b.new).list ≡ (full_of b.old).list }
 {
-    let used = core.counts.nodes;
-    if lent::room::free_nodes(nodes, used) < t.nodes() {
-        return Done {
-            answer: 4,
-            core: core,
-        };
+    if room::free_nodes(b) < t.nodes() {
+        return Err(Refusal::NodesFull);
     }
-    if is_full(push, core.depth) {
-        return Done {
-            answer: 5,
-            core: core,
-        };
+    if is_full(push, b.core.depth) {
+        return Err(Refusal::StackFull);
     }
-    let count = t.count as usize;
-    if lent::room::free_pairs(pairs, core.counts.pairs) < count {
-        return Done {
-            answer: 8,
-            core: core,
-        };
+    if room::free_pairs(b) < usize::from(t.count) {
+        return Err(Refusal::PairsFull);
     }
-    let c = element_in(h, core, nodes, pairs, input, t, from);
-    Done {
-        answer: 0,
-        core: push_if(h, c, push, lent::room::next(used)),
-    }
+    let n = element_in(b, t, pairs);
+    push_if(b, push, n);
+    Ok(())
 }
 
-// 1
+/// Call 1, an element: 13.2.6.1, "insert a foreign element", for HTML elements too, with the attribute pairs of its record.
+/// Of the flags, 1 pushes it and 2 gives it a mark. `Unknown` for an unknown namespace, name or flag, a mark on anything but a
+/// MathML annotation-xml, HTML html, and pairs that are over 16, of an unknown name or of a name twice; `NodesFull`, `StackFull` and `PairsFull`
+/// where there is no room.
+#[tactic(auto, unfolding(standard::specs::Insertion::inserted_element, standard::specs::Insertion::new_tag))]
 pub fn element(
-    h: &mut [u16],
-    core: Core,
-    nodes: &mut [u8],
-    pairs: &mut [u8],
-    input: &[u8],
+    b: &mut Builder<'_>,
     ns: u16,
     name: u16,
     flags: u16,
-    from: usize,
-    count: u16,
-) -> Done
-    requires depth_nonzero { (0 < core.depth) × (core.depth ≤ 512) × (length h.old ≡ 512) }
-    requires pairs_bound { core.counts.pairs ≤ 4096 }
-    ensures { (l m w : List ℕ) (x : Context) → result_of result.answer (full h.new result.core x nodes.new l m w pairs.new) ≡ def.inserted_element input.now (full h.old core x nodes.old l m w pairs.old) ns name flags from count }
+    pairs: Attributes<'_>,
+) -> Result<(), Refusal>
+    requires { Open (full_of b.old) }
+    ensures loans { SameLoans b.old b.new }
+    ensures outcome { result_of (answer_number result) (full_of b.new) ≡ def.inserted_element pairs.entry.input.now (full_of b.old) ns name flags pairs.entry.from pairs.entry.count }
+    ensures list { (full_of b.new).list ≡ (full_of b.old).list }
 {
-    if bad_tag(ns, name, flags) {
-        return Done {
-            answer: 2,
-            core: core,
-        };
-    }
-    if bad_pairs(input, from, count) {
-        return Done {
-            answer: 2,
-            core: core,
-        };
+    if bad_tag(ns, name, flags) || pairs::are_bad(pairs) {
+        return Err(Refusal::Unknown);
     }
     let t = Tag {
         space: ns,
-        name: name,
+        name,
         mark: flags / 2,
-        start: core.counts.pairs as u16,
-        count: count,
+        start: b.core.counts.pairs as u16,
+        count: pairs.count,
     };
-    element_room(h, core, nodes, pairs, input, t, from, flags % 2 == 1)
+    element_room(b, t, pairs, flags % 2 == 1)
 }

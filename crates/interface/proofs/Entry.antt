@@ -1,50 +1,50 @@
 -- One entry of the stack in a reset: it decides, and is a template, exactly where its name says so.
 -- Assumes nothing.
-use Rattle.std.proofs.Common.{ℕ, ◌≡◌, refl, Bool, true, false, cond, ◌&&◌, ◌||◌, eqb, eqb-true}
+use Rattle.std.proofs.Common.{ℕ, ◌≡◌, refl, Bool, true, false, cond, ◌&&◌, ◌||◌, eqb, eqb-true, None, Option, Some}
 use Rattle.names.specs.Space as space
 use Rattle.names.specs.Tag as tag
 use Rattle.names.specs.Sets.{member}
-use Rattle.queries.specs.declared.element.Expanded.{Expanded}
-use Rattle.queries.specs.declared.reset.Step.{Step}
-use Rattle.queries.specs.declared.reset.Step.TheVariants.{Mode, Template, Next}
+use Rattle.queries.specs.declared.reset.Reset.{Reset}
+use Rattle.queries.specs.declared.reset.Reset.TheVariants.{Mode, Template}
+use Rattle.queries.specs.Element.{Expanded}
 use Rattle.queries.specs.Reset.{BEFORE_HEAD, AFTER_HEAD, IN_CELL, IN_ROW, IN_TABLE_BODY, IN_CAPTION, IN_COLUMN_GROUP, IN_TABLE, IN_HEAD, IN_BODY, IN_FRAMESET, mode_for, mode_at}
 use Rattle.interface.specs.Questions.{deciding, decides, is_template}
 
 -- what a step is, d being whether its entry decides and t whether that is a template
-pub data Fits (t : Bool) : Step → Bool → Type 0 where
-  mode : {v : ℕ} → t ≡ false → Fits t (Mode v) true
-  template : t ≡ true → Fits t Template true
-  next : Fits t Next false
+pub data Fits (t : Bool) : Option Reset → Bool → Type 0 where
+  mode : {v : ℕ} → t ≡ false → Fits t (Some (Mode v)) true
+  template : t ≡ true → Fits t (Some Template) true
+  next : Fits t None false
 
-module _ (v : ℕ) {t : Bool} {s : Step} {d : Bool} where
+module _ (v : ℕ) {t : Bool} {s : Option Reset} {d : Bool} where
   -- one name, and some
-  fits_1 : (a : Bool) → (a ≡ true → t ≡ false) → Fits t s d → Fits t (cond a (Mode v) s) (a || d)
+  fits_1 : (a : Bool) → (a ≡ true → t ≡ false) → Fits t s d → Fits t (cond a (Some (Mode v)) s) (a || d)
   fits_1 true p r = mode (p refl)
   fits_1 false p r = r
 
   fits_3 : (a b c : Bool) → (a ≡ true → t ≡ false) → (b ≡ true → t ≡ false) → (c ≡ true → t ≡ false) → Fits t s d
-      → Fits t (cond (a || (b || c)) (Mode v) s) (a || (b || (c || d)))
+      → Fits t (cond (a || (b || c)) (Some (Mode v)) s) (a || (b || (c || d)))
   fits_3 true b c p q o r = mode (p refl)
   fits_3 false true c p q o r = mode (q refl)
   fits_3 false false true p q o r = mode (o refl)
   fits_3 false false false p q o r = r
 
   -- not last
-  fits_2_not : (a b : Bool) → (a ≡ true → t ≡ false) → (b ≡ true → t ≡ false) → Fits t s d → Fits t (cond ((a || b) && true) (Mode v) s) (a || (b || d))
+  fits_2_not : (a b : Bool) → (a ≡ true → t ≡ false) → (b ≡ true → t ≡ false) → Fits t s d → Fits t (cond ((a || b) && true) (Some (Mode v)) s) (a || (b || d))
   fits_2_not true b p q r = mode (p refl)
   fits_2_not false true p q r = mode (q refl)
   fits_2_not false false p q r = r
 
-  fits_1_not : (a : Bool) → (a ≡ true → t ≡ false) → Fits t s d → Fits t (cond (a && true) (Mode v) s) (a || d)
+  fits_1_not : (a : Bool) → (a ≡ true → t ≡ false) → Fits t s d → Fits t (cond (a && true) (Some (Mode v)) s) (a || d)
   fits_1_not true p r = mode (p refl)
   fits_1_not false p r = r
 
   -- last
-  fits_last : (a : Bool) → Fits t s d → Fits t (cond (a && false) (Mode v) s) d
+  fits_last : (a : Bool) → Fits t s d → Fits t (cond (a && false) (Some (Mode v)) s) d
   fits_last true r = r
   fits_last false r = r
 
-fits_template : (t : Bool) {s : Step} {d : Bool} → Fits t s d → Fits t (cond t Template s) (t || d)
+fits_template : (t : Bool) {s : Option Reset} {d : Bool} → Fits t s d → Fits t (cond t (Some Template) s) (t || d)
 fits_template true r = template refl
 fits_template false r = r
 
@@ -55,7 +55,7 @@ other name x d e = rw (eqb-true name x e) d
 module _ (head name : ℕ) where
   -- from step 12 on
   fits_late : Fits (eqb name tag.template)
-      (cond (eqb name tag.body) (Mode IN_BODY) (cond (eqb name tag.frameset) (Mode IN_FRAMESET) (cond (eqb name tag.html) (Mode (cond (eqb head 0) BEFORE_HEAD AFTER_HEAD)) Next)))
+      (cond (eqb name tag.body) (Some (Mode IN_BODY)) (cond (eqb name tag.frameset) (Some (Mode IN_FRAMESET)) (cond (eqb name tag.html) (Some (Mode (cond (eqb head 0) BEFORE_HEAD AFTER_HEAD))) None)))
       (eqb name tag.body || (eqb name tag.frameset || (eqb name tag.html || false)))
   fits_late =
       fits_1 IN_BODY (eqb name tag.body) (other name tag.body refl)
@@ -63,14 +63,14 @@ module _ (head name : ℕ) where
       (fits_1 (cond (eqb head 0) BEFORE_HEAD AFTER_HEAD) (eqb name tag.html) (other name tag.html refl) next))
 
   -- steps 5 to 10
-  module _ {s : Step} {d : Bool} (rest : Fits (eqb name tag.template) s d) where
+  module _ {s : Option Reset} {d : Bool} (rest : Fits (eqb name tag.template) s d) where
     fits_middle : Fits (eqb name tag.template)
-        (cond (eqb name tag.tr) (Mode IN_ROW)
-        (cond (eqb name tag.tbody || (eqb name tag.thead || eqb name tag.tfoot)) (Mode IN_TABLE_BODY)
-        (cond (eqb name tag.caption) (Mode IN_CAPTION)
-        (cond (eqb name tag.colgroup) (Mode IN_COLUMN_GROUP)
-        (cond (eqb name tag.table) (Mode IN_TABLE)
-        (cond (eqb name tag.template) Template s))))))
+        (cond (eqb name tag.tr) (Some (Mode IN_ROW))
+        (cond (eqb name tag.tbody || (eqb name tag.thead || eqb name tag.tfoot)) (Some (Mode IN_TABLE_BODY))
+        (cond (eqb name tag.caption) (Some (Mode IN_CAPTION))
+        (cond (eqb name tag.colgroup) (Some (Mode IN_COLUMN_GROUP))
+        (cond (eqb name tag.table) (Some (Mode IN_TABLE))
+        (cond (eqb name tag.template) (Some Template) s))))))
         (eqb name tag.tr || (eqb name tag.tbody || (eqb name tag.thead || (eqb name tag.tfoot || (eqb name tag.caption || (eqb name tag.colgroup || (eqb name tag.table || (eqb name tag.template || d))))))))
     fits_middle =
         fits_1 IN_ROW (eqb name tag.tr) (other name tag.tr refl)
@@ -92,6 +92,6 @@ pub fits_entry : (head : ℕ) (last : Bool) (e : Expanded) → Fits (is_template
 unfolding mode_at is_template decides
 fits_entry head last e = by (eqb e.space space.html)
   where
-    by : (b : Bool) → Fits (b && eqb e.name tag.template) (cond b (mode_for head last e.name) Next) (b && member e.name (deciding last))
+    by : (b : Bool) → Fits (b && eqb e.name tag.template) (cond b (mode_for head last e.name) None) (b && member e.name (deciding last))
     by true = fits_name head e.name last
     by false = next

@@ -1,23 +1,19 @@
 -- The answer of a question is the lowest number of the answer table that applies to it, and 0 if none does: each refusal exactly when
 -- `refusals_of_question` says so.
 -- Assumes nothing.
-use Rattle.std.proofs.Common.{ℕ, ◌-◌, ◌≤◌, ◌≡◌, refl, ap, ◌∙◌, ◌≢◌, ◌⊎◌, inl, inr, Bool, true, false, cond, ◌&&◌, eqb, ltb}
+use Rattle.std.proofs.Common.{ℕ, ◌-◌, ◌≤◌, ◌≡◌, refl, ap, ◌∙◌, ◌≢◌, ◌⊎◌, inl, inr, Bool, true, false, cond, ◌&&◌, eqb, ltb, None, Option, Some}
 use Rattle.places.specs.Places.{Places, at}
 use Rattle.state.specs.declared.Context.{Context}
-use Rattle.state.specs.declared.Context.TheVariants.{None, Element}
 use Rattle.state.specs.Full.{Full}
 use Rattle.sound.specs.State.{SoundFull}
 use Rattle.standard.specs.Refusals.{refusals, applies, least, lowest, only_unknown, only_nothing}
 use Rattle.kept.specs.Exactly.{lowest_applies, lowest_least}
-use Rattle.queries.specs.declared.Asked.{Asked}
 use Rattle.queries.specs.declared.reset.Reset.{Reset}
-use Rattle.queries.specs.declared.reset.Reset.TheVariants as reset
-use Rattle.queries.specs.declared.tokenizer.Start.{Start}
-use Rattle.queries.specs.declared.tokenizer.Start.TheVariants.{Data, Rcdata, Rawtext, ScriptData, Plaintext}
-use Rattle.queries.specs.Told.{told, refused}
+use Rattle.queries.specs.declared.reset.Reset.TheVariants.{Mode, Template}
+use Rattle.queries.specs.Told.{Asked, told, refused}
 use Rattle.queries.specs.Reset.{given, reset_mode}
 use Rattle.queries.specs.Foreign.{bad_token, is_foreign}
-use Rattle.queries.specs.Tokenizer.{state_in, for_context, tokenizer_state}
+use Rattle.queries.specs.Tokenizer.{for_context, tokenizer_state}
 use Rattle.queries.specs.Tokenizer as tokens
 use Rattle.queries.proofs.Ranges.{Within, reset_answers, foreign_answers, body_answers, tokenizer_answers}
 use Rattle.interface.specs.Questions.{Question, reset, foreign, body, tokenizer, answer_of, without_context, at_template, refusals_of_question}
@@ -28,8 +24,8 @@ use Rattle.interface.proofs.Reset.{ends_there, walk_ends}
 module _ (f : Full) where
   given_exact : (r : Reset) (s : Places) → (given r s).answer ≡ lowest (only_nothing (ends_there r && eqb s.size 0))
   unfolding given ends_there lowest least applies
-  given_exact (reset.Mode m) s = refl
-  given_exact reset.Template s = by (eqb s.size 0)
+  given_exact (Mode m) s = refl
+  given_exact Template s = by (eqb s.size 0)
     where
       by : (b : Bool) → (cond b (refused 3) (told (at s (s.size - 1)))).answer ≡ lowest (only_nothing b)
       by true = refl
@@ -47,22 +43,14 @@ module _ (f : Full) where
       by true v = refl
       by false v = refl
 
-  given_state : (t : Start) → (tokens.given t).answer ≡ 0
-  unfolding tokens.given
-  given_state Data = refl
-  given_state Rcdata = refl
-  given_state Rawtext = refl
-  given_state ScriptData = refl
-  given_state Plaintext = refl
-
   tokenizer_exact : (scripting : ℕ) → (tokenizer_state f scripting).answer ≡ lowest (refusals (ltb 1 scripting) (without_context f.context) false false false false false)
-  unfolding tokenizer_state for_context without_context lowest least applies
+  unfolding tokenizer_state for_context tokens.given without_context lowest least applies
   tokenizer_exact scripting = by (ltb 1 scripting) f.context
     where
-      by : (b : Bool) (x : Context) → (cond b (refused 2) (for_context scripting x)).answer ≡ lowest (refusals b (without_context x) false false false false false)
+      by : (b : Bool) (x : Option Context) → (cond b (refused 2) (for_context scripting x)).answer ≡ lowest (refusals b (without_context x) false false false false false)
       by true x = refl
       by false None = refl
-      by false (Element ns name mark) = given_state (state_in scripting ns name)
+      by false (Some x) = refl
 
 -- ---- all
 

@@ -1,6 +1,6 @@
 -- The walk of a reset ends at a template exactly where `EndsAtTemplate` says so.
 -- Assumes nothing.
-use Rattle.std.proofs.Common.{ℕ, zero, suc, ◌<◌, ◌≡◌, refl, sym, ◌∙◌, Bool, true, false, cond, ◌&&◌, arith, eqb, eqb-true, eq-eqb}
+use Rattle.std.proofs.Common.{ℕ, zero, suc, ◌<◌, ◌≡◌, refl, sym, ◌∙◌, Bool, true, false, cond, ◌&&◌, arith, eqb, eqb-true, eq-eqb, Option}
 use Rattle.std.proofs.Math.Decide.{ℕ_discrete}
 use Rattle.names.specs.Space as space
 use Rattle.names.specs.Tag as tag
@@ -8,10 +8,9 @@ use Rattle.names.specs.Sets.{member}
 use Rattle.theory.specs.Says.{Says, f≢}
 use Rattle.state.specs.Full.{Full}
 use Rattle.standard.specs.Refusals.{applies}
-use Rattle.queries.specs.declared.element.Expanded.{Expanded}
-use Rattle.queries.specs.declared.reset.Step.{Step}
 use Rattle.queries.specs.declared.reset.Reset.{Reset}
-use Rattle.queries.specs.declared.reset.Reset.TheVariants as reset
+use Rattle.queries.specs.declared.reset.Reset.TheVariants.{Mode, Template}
+use Rattle.queries.specs.Element.{Expanded}
 use Rattle.queries.specs.Reset.{onward, walked}
 use Rattle.interface.specs.Questions as questions
 use Rattle.interface.specs.Questions.{deciding, decides, is_template, entry_of, at_template, EndsAtTemplate, refusals_of_question}
@@ -20,10 +19,10 @@ use Rattle.interface.proofs.Entry.{Fits, mode, template, next, fits_entry}
 -- ---- the walk
 
 unfoldable pub ends_there : Reset → Bool
-ends_there (reset.Mode m) = false
-ends_there reset.Template = true
+ends_there (Mode m) = false
+ends_there Template = true
 
-fits_on : {t : Bool} {s : Step} {d : Bool} (r : Reset) (b : Bool) → Fits t s d → ends_there r ≡ b → ends_there (onward s r) ≡ cond d t b
+fits_on : {t : Bool} {s : Option Reset} {d : Bool} (r : Reset) (b : Bool) → Fits t s d → ends_there r ≡ b → ends_there (onward s r) ≡ cond d t b
 unfolding onward ends_there
 fits_on r b (mode e) h = sym e
 fits_on r b (template e) h = sym e

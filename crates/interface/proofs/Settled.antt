@@ -1,17 +1,19 @@
 -- Every single call that a host can make, on any record and any lent memory: answer 1 exactly if the state is not sound; else what
 -- `never_sticks` says of the call, 2 for a call that is not known and 9 for a record that is cut short or badly written.
 -- Assumes nothing.
-use Rattle.std.proofs.Common.{◌≡◌, refl, ap, sym, ◌∙◌, ◌≢◌, ◌⊎◌, inl, inr, Bool, true, false, cond, ℕ, ◌≤◌, arith}
+use Rattle.std.proofs.Common.{◌≡◌, refl, ap, sym, ◌∙◌, ◌≢◌, ◌⊎◌, inl, inr, Bool, true, false, cond, ℕ, ◌≤◌, arith, Ok, Err}
 use Rattle.theory.specs.Says.{Says}
-use Rattle.records.specs.declared.Item.{Item}
-use Rattle.records.specs.declared.Item.TheVariants as is
-use Rattle.records.specs.Record.{item_at}
+use Rattle.records.specs.declared.refusal.Refusal.{Refusal}
+use Rattle.records.specs.declared.refusal.Refusal.TheVariants as refusal
+use Rattle.records.specs.Refusal.{number_of}
+use Rattle.records.proofs.Past.{item_told}
+use Rattle.records.specs.Record.{item_at, Item}
 use Rattle.state.specs.Full.{Full, Result, result_of, refused}
 use Rattle.sound.specs.State.{SoundFull}
 use Rattle.standard.specs.Step.{step}
 use Rattle.standard.specs.Run.{on_single, single}
 use Rattle.edge.specs.Public.{Checked}
-use Rattle.queries.specs.declared.Asked.{Asked}
+use Rattle.queries.specs.Told.{Asked}
 use Rattle.queries.specs.Told as told
 use Rattle.interface.specs.Questions.{answer_of}
 use Rattle.interface.specs.Calls.{question, Effect, effect, effect_of}
@@ -30,16 +32,19 @@ joined a b c = cc
 -- what the promise allows: that, or answer 1
 allowed : (c : Alone) (f : Full) (o : Effect) → Allows c f o → Checked (SoundFull f) o (effect_as (means c) f) (effect 1 0 f)
 unfolding means item_means single on_single effect_of effect_as
-allowed (by_record s) f o w = record { ok = w.0.ok; says = w.0.says; is = by w.0.ok (item_at s 0) w.0.is }
+allowed (by_record s) f o w = record { ok = w.0.ok; says = w.0.says; is = by w.0.ok (item_at s 0) refl w.0.is }
   where
     same : (r : Result) → result_of o.answer o.after ≡ r → o ≡ effect r.answer 0 r.after
     same r e = joined (ap (λ (x : Result). x.answer) e) w.1 (ap (λ (x : Result). x.after) e)
 
-    by : (b : Bool) (i : Item) → result_of o.answer o.after ≡ cond b (on_single i s f) (refused 1 f) → o ≡ cond b (effect_as (item_means i s) f) (effect 1 0 f)
-    by true (is.Call r next) e = same (step s r f) e
-    by true is.Unknown e = same (refused 2 f) e
-    by true is.Bad e = same (refused 9 f) e
-    by false i e = same (refused 1 f) e
+    told : (k : Refusal) → (k ≡ refusal.Unknown) ⊎ (k ≡ refusal.BadRecord) → result_of o.answer o.after ≡ refused (number_of k) f → o ≡ effect_as (item_means (Err k) s) f
+    told k (inl u) e = rw u (same (refused 2 f) (rw u at e))
+    told k (inr u) e = rw u (same (refused 9 f) (rw u at e))
+
+    by : (b : Bool) (i : Item) → item_at s 0 ≡ i → result_of o.answer o.after ≡ cond b (on_single i s f) (refused 1 f) → o ≡ cond b (effect_as (item_means i s) f) (effect 1 0 f)
+    by true (Ok (r, next)) q e = same (step s r f) e
+    by true (Err k) q e = told k (item_told s 0 q) e
+    by false i q e = same (refused 1 f) e
 allowed (by_question q) f o w = record { ok = w.0.ok; says = w.0.says; is = by w.0.ok w.0.is }
   where
     same : (r : Asked) → asks o.answer o.value ≡ r → o ≡ effect r.answer r.value f

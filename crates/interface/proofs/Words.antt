@@ -27,6 +27,9 @@ use Rattle.dump.proofs.next.Kinds as next-kinds
 use Rattle.dump.proofs.next.Reads as next-reads
 use Rattle.dump.proofs.line.Kinds as line-kinds
 use Rattle.dump.proofs.line.Reads as line-reads
+use Rattle.state.specs.declared.State.{State}
+use Rattle.state.specs.declared.lent.Seen.{Seen}
+use Rattle.state.specs.Lent.{SameMemory}
 use Rattle.interface.specs.Questions as questions
 use Rattle.interface.specs.Public.{Public, check, begin, run, call, ask, start, next, line, Lent, Gives, Promise}
 
@@ -43,58 +46,76 @@ Still c z m = Promise c m (record { gives = z; lent = m })
 abbrev lent : List ℕ → List ℕ → List ℕ → List ℕ → List ℕ → List ℕ → List ℕ → Lent
 lent n l m p q i o = record { nodes = n; list = l; modes = m; pieces = p; pairs = q; input = i; out = o }
 
+-- what a host lends to be read
+abbrev seen : Seen → List ℕ → List ℕ → Lent
+seen s i o = lent s.nodes.now s.list.now s.modes.now s.pieces.now s.pairs.now i o
+
 -- l, d, p, q, i and o are what is not lent
 module _ (l d p q i o : List ℕ) where
   -- ---- calls that read the state
 
-  pub check_promised : Contract 5 check-kinds.ps check-kinds.r check-reads.Asked check-reads.Learnt
-      (λ κs a z e. Still (check a.0) z (lent a.1.0.now a.1.1.0.now a.1.1.1.0.now a.1.1.1.1.0.now a.1.1.1.1.1.0.now i o))
+  pub check_promised : Contract 1 check-kinds.ps check-kinds.r check-reads.Asked check-reads.Learnt
+      (λ κs a z e. Still (check a.0) z (seen a.1.0 i o))
   check_promised = record { asks = λ κs a. tt; promised = λ κs a z e h. (h, refl); no_more = λ κs a z e w. w.0 }
 
-  pub reset_promised : Contract 5 reset-kinds.ps reset-kinds.r reset-reads.Asked reset-reads.Learnt
-      (λ κs a z e. Still (ask questions.reset a.0) z (lent a.1.0.now a.1.1.0.now a.1.1.1.0.now a.1.1.1.1.0.now a.1.1.1.1.1.0.now i o))
+  pub reset_promised : Contract 1 reset-kinds.ps reset-kinds.r reset-reads.Asked reset-reads.Learnt
+      (λ κs a z e. Still (ask questions.reset a.0) z (seen a.1.0 i o))
   unfolding questions.answer_of
-  reset_promised = record { asks = λ κs a. tt; promised = λ κs a z e h. (h, refl); no_more = λ κs a z e w. w.0 }
+  reset_promised = record { asks = λ κs a. tt; promised = λ κs a z e h. (h, tt, refl); no_more = λ κs a z e w. w.0 }
 
-  pub foreign_promised : Contract 5 foreign-kinds.ps foreign-kinds.r foreign-reads.Asked foreign-reads.Learnt
-      (λ κs a z e. Still (ask (questions.foreign a.1.1.1.1.1.1.0 a.1.1.1.1.1.1.1.0) a.0) z (lent a.1.0.now a.1.1.0.now a.1.1.1.0.now a.1.1.1.1.0.now a.1.1.1.1.1.0.now i o))
+  pub foreign_promised : Contract 1 foreign-kinds.ps foreign-kinds.r foreign-reads.Asked foreign-reads.Learnt
+      (λ κs a z e. Still (ask (questions.foreign a.1.1.0 a.1.1.1.0) a.0) z (seen a.1.0 i o))
   unfolding questions.answer_of
-  foreign_promised = record { asks = λ κs a. tt; promised = λ κs a z e h. (h, refl); no_more = λ κs a z e w. w.0 }
+  foreign_promised = record { asks = λ κs a. tt; promised = λ κs a z e h. (h, tt, refl); no_more = λ κs a z e w. w.0 }
 
-  pub body_promised : Contract 5 body-kinds.ps body-kinds.r body-reads.Asked body-reads.Learnt
-      (λ κs a z e. Still (ask questions.body a.0) z (lent a.1.0.now a.1.1.0.now a.1.1.1.0.now a.1.1.1.1.0.now a.1.1.1.1.1.0.now i o))
+  pub body_promised : Contract 1 body-kinds.ps body-kinds.r body-reads.Asked body-reads.Learnt
+      (λ κs a z e. Still (ask questions.body a.0) z (seen a.1.0 i o))
   unfolding questions.answer_of
-  body_promised = record { asks = λ κs a. tt; promised = λ κs a z e h. (h, refl); no_more = λ κs a z e w. w.0 }
+  body_promised = record { asks = λ κs a. tt; promised = λ κs a z e h. (h.0, h.1, refl); no_more = λ κs a z e w. (w.0, w.1) }
 
-  pub tokenizer_promised : Contract 5 tokenizer-kinds.ps tokenizer-kinds.r tokenizer-reads.Asked tokenizer-reads.Learnt
-      (λ κs a z e. Still (ask (questions.tokenizer a.1.1.1.1.1.1.0) a.0) z (lent a.1.0.now a.1.1.0.now a.1.1.1.0.now a.1.1.1.1.0.now a.1.1.1.1.1.0.now i o))
+  pub tokenizer_promised : Contract 1 tokenizer-kinds.ps tokenizer-kinds.r tokenizer-reads.Asked tokenizer-reads.Learnt
+      (λ κs a z e. Still (ask (questions.tokenizer a.1.1.0) a.0) z (seen a.1.0 i o))
   unfolding questions.answer_of
-  tokenizer_promised = record { asks = λ κs a. tt; promised = λ κs a z e h. (h, refl); no_more = λ κs a z e w. w.0 }
+  tokenizer_promised = record { asks = λ κs a. tt; promised = λ κs a z e h. (h, tt, refl); no_more = λ κs a z e w. w.0 }
 
   -- ---- calls that change it
 
+  -- whatever record the caller has
   pub begin_promised : Contract 2 begin-kinds.ps begin-kinds.r begin-reads.Asked begin-reads.Learnt
       (λ κs a z e.
-      Promise (begin a.0 a.1.1.1.0) (lent a.1.0.now l a.1.1.0.now p q i o)
-      (record { gives = z; lent = lent e.1.0.now l e.1.1.0.now p q i o }))
+      (st : State)
+      → Promise (begin st a.1.1.0) (lent a.0.now l a.1.0.now p q i o)
+      (record { gives = z; lent = lent e.0.now l e.1.0.now p q i o }))
   begin_promised =
       record {
         asks = λ κs a. tt;
-        promised = λ κs a z e h. (h, record { list = refl; pieces = refl; pairs = refl; rest = record { input = refl; out = refl } });
-        no_more = λ κs a z e w. w.0;
+        promised = λ κs a z e h st. (h st, record { list = refl; pieces = refl; pairs = refl; rest = record { input = refl; out = refl } });
+        no_more = λ κs a z e w st. (w st).0;
       }
 
-  pub run_promised : Contract 6 run-kinds.ps run-kinds.r run-reads.Asked run-reads.Learnt
+  pub run_promised : Contract 3 run-kinds.ps run-kinds.r run-reads.Asked run-reads.Learnt
       (λ κs a z e.
-      Promise (run a.0) (lent a.1.0.now a.1.1.0.now a.1.1.1.0.now a.1.1.1.1.0.now a.1.1.1.1.1.0.now a.1.1.1.1.1.1.0.now o)
-      (record { gives = z; lent = lent e.1.0.now e.1.1.0.now e.1.1.1.0.now e.1.1.1.1.0.now e.1.1.1.1.1.0.now a.1.1.1.1.1.1.0.now o }))
-  run_promised = record { asks = λ κs a. tt; promised = λ κs a z e h. (h, record { input = refl; out = refl }); no_more = λ κs a z e w. w.0 }
+      Promise (run a.0) (lent a.1.0.now.nodes.now a.1.0.now.list.now a.1.0.now.modes.now a.1.0.now.pieces.now a.1.0.now.pairs.now a.1.1.0.now o)
+      (record { gives = z; lent = lent e.1.0.now.nodes.now e.1.0.now.list.now e.1.0.now.modes.now e.1.0.now.pieces.now e.1.0.now.pairs.now a.1.1.0.now o })
+      × SameMemory a.1.0.now e.1.0.now)
+  run_promised =
+      record {
+        asks = λ κs a. tt;
+        promised = λ κs a z e h. ((h.1, record { input = refl; out = refl }), h.0);
+        no_more = λ κs a z e w. (w.1, w.0.0);
+      }
 
-  pub call_promised : Contract 6 call-kinds.ps call-kinds.r call-reads.Asked call-reads.Learnt
+  pub call_promised : Contract 3 call-kinds.ps call-kinds.r call-reads.Asked call-reads.Learnt
       (λ κs a z e.
-      Promise (call a.0) (lent a.1.0.now a.1.1.0.now a.1.1.1.0.now a.1.1.1.1.0.now a.1.1.1.1.1.0.now a.1.1.1.1.1.1.0.now o)
-      (record { gives = z; lent = lent e.1.0.now e.1.1.0.now e.1.1.1.0.now e.1.1.1.1.0.now e.1.1.1.1.1.0.now a.1.1.1.1.1.1.0.now o }))
-  call_promised = record { asks = λ κs a. tt; promised = λ κs a z e h. (h.0, h.1, record { input = refl; out = refl }); no_more = λ κs a z e w. (w.0, w.1) }
+      Promise (call a.0) (lent a.1.0.now.nodes.now a.1.0.now.list.now a.1.0.now.modes.now a.1.0.now.pieces.now a.1.0.now.pairs.now a.1.1.0.now o)
+      (record { gives = z; lent = lent e.1.0.now.nodes.now e.1.0.now.list.now e.1.0.now.modes.now e.1.0.now.pieces.now e.1.0.now.pairs.now a.1.1.0.now o })
+      × SameMemory a.1.0.now e.1.0.now)
+  call_promised =
+      record {
+        asks = λ κs a. tt;
+        promised = λ κs a z e h. ((h.1.0, h.1.1, record { input = refl; out = refl }), h.0);
+        no_more = λ κs a z e w. (w.1, (w.0.0, w.0.1));
+      }
 
   -- ---- the dump
 

@@ -1,14 +1,13 @@
 -- The single calls as a host makes them, on any record and any lent memory: what is promised of each, and what that comes to.
 -- Assumes nothing.
-use Rattle.std.specs.Prelude.{ℕ, ◌≡◌, ◌≢◌, List}
-use Rattle.records.specs.declared.Item.{Item}
-use Rattle.records.specs.declared.Item.TheVariants as is
-use Rattle.records.specs.Record.{item_at}
+use Rattle.std.specs.Prelude.{ℕ, ◌≡◌, ◌≢◌, List, Ok, Err}
+use Rattle.records.specs.declared.refusal.Refusal.TheVariants as refusal
+use Rattle.records.specs.Record.{item_at, Item}
 use Rattle.state.specs.Full.{Full, result_of, refused}
 use Rattle.sound.specs.State.{SoundFull}
 use Rattle.standard.specs.Run.{single}
 use Rattle.edge.specs.Public.{Checked}
-use Rattle.queries.specs.declared.Asked.{Asked}
+use Rattle.queries.specs.Told.{Asked}
 use Rattle.queries.specs.Told as told
 use Rattle.interface.specs.Questions.{Question, answer_of}
 use Rattle.interface.specs.Calls.{Call, numbered, question, Effect, effect, Settled}
@@ -33,9 +32,9 @@ pub data Meant : Type 0 where
   broken : Meant
 
 unfoldable pub item_means : Item → List ℕ → Meant
-item_means (is.Call r next) s = call (numbered s r)
-item_means is.Unknown s = unknown
-item_means is.Bad s = broken
+item_means (Ok (r, next)) s = call (numbered s r)
+item_means (Err refusal.Unknown) s = unknown
+item_means (Err k) s = broken
 
 unfoldable pub means : Alone → Meant
 means (by_record s) = item_means (item_at s 0) s

@@ -1,22 +1,24 @@
 -- The questions of module 8, and when each is refused: for each number of the answer table, whether it applies to the question. The
 -- answer is the lowest that does.
 -- Assumes nothing.
-use Rattle.std.specs.Prelude.{ℕ, zero, suc, ◌<◌, ◌≡◌, Bool, true, false, cond, ◌&&◌, List, [], ◌∷◌, eqb, ltb}
+use Rattle.std.specs.Prelude.{ℕ, zero, suc, ◌<◌, ◌≡◌, Bool, true, false, cond, ◌&&◌, List, [], ◌∷◌, eqb, ltb, None, Option, Some, Result as OkOrErr}
+use Rattle.lent.specs.declared.Node.{Node}
 use Rattle.names.specs.Space as space
 use Rattle.names.specs.Tag as tag
 use Rattle.names.specs.Sets.{member}
 use Rattle.places.specs.Places.{at}
+use Rattle.records.specs.declared.refusal.Refusal.{Refusal}
 use Rattle.state.specs.declared.Context.{Context}
-use Rattle.state.specs.declared.Context.TheVariants.{None, Element}
 use Rattle.state.specs.Full.{Full}
 use Rattle.standard.specs.Refusals.{Refusals, refusals, only_unknown, only_nothing}
-use Rattle.queries.specs.declared.Asked.{Asked}
-use Rattle.queries.specs.declared.element.Expanded.{Expanded}
-use Rattle.queries.specs.Element.{standing}
-use Rattle.queries.specs.Reset.{reset_mode}
-use Rattle.queries.specs.Foreign.{bad_token, is_foreign}
-use Rattle.queries.specs.BodyElem.{body_elem}
-use Rattle.queries.specs.Tokenizer.{tokenizer_state}
+use Rattle.queries.specs.declared.reset.Mode.{Mode}
+use Rattle.queries.specs.declared.tokenizer.TokenizerState.{TokenizerState}
+use Rattle.queries.specs.Told.{Asked, asked}
+use Rattle.queries.specs.Element.{Expanded, standing}
+use Rattle.queries.specs.Reset.{mode_number, reset_mode}
+use Rattle.queries.specs.Foreign.{bad_token, flag_number, is_foreign}
+use Rattle.queries.specs.BodyElem.{node_number, FindsNode, body_elem}
+use Rattle.queries.specs.Tokenizer.{state_number, tokenizer_state}
 
 pub data Question : Type 0 where
   -- reset_insertion_mode
@@ -28,7 +30,34 @@ pub data Question : Type 0 where
   -- tokenizer_state_for_context_elem: the scripting flag
   tokenizer : ℕ → Question
 
--- the answer and the value
+-- what it gives where it is not refused, and the number of that
+abbrev pub Value : Question → Type 0
+Value reset = Mode
+Value (foreign kind name) = Bool
+Value body = Option Node
+Value (tokenizer scripting) = TokenizerState
+
+abbrev pub Answered : Question → Type 0
+Answered q = OkOrErr (Value q) Refusal
+
+abbrev pub value_number : (q : Question) → Value q → ℕ
+value_number reset v = mode_number v
+value_number (foreign kind name) v = flag_number v
+value_number body v = node_number v
+value_number (tokenizer scripting) v = state_number v
+
+-- a result by its answer number and the number of its value
+abbrev pub asked_by : (q : Question) → Answered q → Asked
+asked_by q r = asked (value_number q) r
+
+-- and what more is said of it: a body that is found is a node, so that 0 stands for none alone
+abbrev pub Named : (q : Question) → Answered q → Type 0
+Named reset r = Unit {0}
+Named (foreign kind name) r = Unit {0}
+Named body r = FindsNode r
+Named (tokenizer scripting) r = Unit {0}
+
+-- the answer and the value, as the definitions have them
 unfoldable pub answer_of : Question → Full → Asked
 answer_of reset f = reset_mode f
 answer_of (foreign kind name) f = is_foreign f kind name
@@ -69,9 +98,9 @@ pub record EndsAtTemplate (f : Full) : Type 0 where
 
 -- ---- when each is refused
 
-unfoldable pub without_context : Context → Bool
+unfoldable pub without_context : Option Context → Bool
 without_context None = true
-without_context (Element ns name mark) = false
+without_context (Some x) = false
 
 -- an unknown flag and no context may meet: 2 and 3 both apply
 unfoldable pub refusals_of_question : Question → Full → Refusals

@@ -1,7 +1,7 @@
 -- The adoption agency (call 8), and what a start tag `a` does to an `a` in the list (call 9), keep a sound state sound. A round takes
 -- four nodes at most, so the 32 that must be free are enough for eight rounds.
 -- Assumes nothing.
-use Rattle.std.specs.Prelude.{ℕ, zero, suc, ◌+◌, ◌-◌, ◌*◌, ◌<◌, ◌≡◌, ◌≢◌, Bool, true, false, cond, not}
+use Rattle.std.specs.Prelude.{ℕ, zero, suc, ◌+◌, ◌-◌, ◌*◌, ◌<◌, ◌≡◌, ◌≢◌, Bool, true, false, cond, not, None, Option, Some}
 use Rattle.std.proofs.Common.{refl, sym, ◌∙◌, arith}
 use Rattle.std.proofs.Math.Decide.{dec_lt}
 use Rattle.std.proofs.lemmas.Bool.{eqb-false, not-false}
@@ -12,8 +12,6 @@ use Rattle.theory.specs.Fn.{at}
 use Rattle.lent.specs.Mem.{NODES, slots, field, NAME}
 use Rattle.places.specs.Places as places
 use Rattle.places.specs.Places.{place_of, same, cut, left, left_at}
-use Rattle.places.specs.declared.Found.{Found}
-use Rattle.places.specs.declared.Found.TheVariants.{At, Nothing}
 use Rattle.state.specs.Full.{Full, with_stack, with_list}
 use Rattle.sound.specs.State.{SoundFull}
 use Rattle.standard.specs.Html.{is_html, current}
@@ -45,9 +43,9 @@ module _ (f : Full) (s : SoundFull f) (n : ℕ) where
   unfolding left left_at with_stack
   left_stack_lem d = by (place_of f.stack n) refl
     where
-      by : (r : Found) → place_of f.stack n ≡ r → SoundFull (with_stack f (left_at r f.stack))
-      by Nothing e = s
-      by (At i) e =
+      by : (r : Option ℕ) → place_of f.stack n ≡ r → SoundFull (with_stack f (left_at r f.stack))
+      by None e = s
+      by (Some i) e =
           let t = place_found f.stack n i e in
           without_stack f s i (not_first f s n d i t.1) (omega (arith, t.0, s.stack.all))
 
@@ -55,9 +53,9 @@ module _ (f : Full) (s : SoundFull f) (n : ℕ) where
   unfolding left left_at with_list
   left_list = by (place_of f.list n) refl
     where
-      by : (r : Found) → place_of f.list n ≡ r → SoundFull (with_list f (left_at r f.list))
-      by Nothing e = s
-      by (At i) e = without_list f s i (omega (arith, (place_found f.list n i e).0, s.list.all))
+      by : (r : Option ℕ) → place_of f.list n ≡ r → SoundFull (with_list f (left_at r f.list))
+      by None e = s
+      by (Some i) e = without_list f s i (omega (arith, (place_found f.list n i e).0, s.list.all))
 
 pub leaves_sound : (f : Full) → SoundFull f → (n : ℕ) → n ≢ 2 → SoundFull (leaves f n)
 unfolding leaves with_stack
@@ -91,44 +89,44 @@ over k s = record { sound = s; room = λ e. absurd (let z : ◌≡◌ {A = ℕ} 
 
 module _ (k : ℕ) (f : Full) (o : SoundFull f) (room : f.nodes.used + (k + 4) < slots NODES f.nodes.mem) (name : ℕ) where
   -- 4.7, 4.8
-  blocked_kept : (j s i : ℕ) → entry_of f.nodes.mem f.list name ≡ At j → place_of f.stack (places.at f.list j) ≡ At s
-      → in_scope DefaultScope (same (places.at f.list j)) f.nodes.mem f.stack ≡ At i → 0 < s → Kept k (blocked f (places.at f.list j) s j)
+  blocked_kept : (j s i : ℕ) → entry_of f.nodes.mem f.list name ≡ Some j → place_of f.stack (places.at f.list j) ≡ Some s
+      → in_scope DefaultScope (same (places.at f.list j)) f.nodes.mem f.stack ≡ Some i → 0 < s → Kept k (blocked f (places.at f.list j) s j)
   unfolding blocked block_at with_stack
   blocked_kept j s i a b c z = by (furthest_of f.nodes.mem f.stack s) refl
     where
       l : j < f.list.size
       l = omega (arith, entry_found f.nodes.mem f.list name j a, o.list.all)
 
-      by : (r : Found) → furthest_of f.nodes.mem f.stack s ≡ r → Kept k (block_at r f (places.at f.list j) s j)
-      by Nothing q =
+      by : (r : Option ℕ) → furthest_of f.nodes.mem f.stack s ≡ r → Kept k (block_at r f (places.at f.list j) s j)
+      by None q =
           over k
           (without_list (with_stack f (cut f.stack s))
           (cut_stack f o s z (omega (arith, (place_found f.stack (places.at f.list j) s b).0, o.stack.all))) j l)
-      by (At p) q =
+      by (Some p) q =
           let w = adopted_sound f o s j p (blocked_at f o name j s i p a b c q) (omega arith) in
           record { sound = w.sound; room = λ y. rw w.slots (omega (arith, w.used)) }
 
   -- 4.5
-  scoped_kept : (j s : ℕ) → entry_of f.nodes.mem f.list name ≡ At j → place_of f.stack (places.at f.list j) ≡ At s → 0 < s
+  scoped_kept : (j s : ℕ) → entry_of f.nodes.mem f.list name ≡ Some j → place_of f.stack (places.at f.list j) ≡ Some s → 0 < s
       → Kept k (scoped f (places.at f.list j) s j)
   unfolding scoped scope_at
   scoped_kept j s a b z = by (in_scope DefaultScope (same (places.at f.list j)) f.nodes.mem f.stack) refl
     where
-      by : (r : Found) → in_scope DefaultScope (same (places.at f.list j)) f.nodes.mem f.stack ≡ r → Kept k (scope_at r f (places.at f.list j) s j)
-      by Nothing q = over k o
-      by (At i) q = blocked_kept j s i a b q z
+      by : (r : Option ℕ) → in_scope DefaultScope (same (places.at f.list j)) f.nodes.mem f.stack ≡ r → Kept k (scope_at r f (places.at f.list j) s j)
+      by None q = over k o
+      by (Some i) q = blocked_kept j s i a b q z
 
   -- 4.4
-  opened_kept : (j : ℕ) → entry_of f.nodes.mem f.list name ≡ At j → Kept k (opened f j)
+  opened_kept : (j : ℕ) → entry_of f.nodes.mem f.list name ≡ Some j → Kept k (opened f j)
   unfolding opened open_at places.at
   opened_kept j a = by (place_of f.stack (at f.list.held j)) refl
     where
       l : j < f.list.size
       l = omega (arith, entry_found f.nodes.mem f.list name j a, o.list.all)
 
-      by : (r : Found) → place_of f.stack (at f.list.held j) ≡ r → Kept k (open_at r f (at f.list.held j) j)
-      by Nothing q = over k (without_list f o j l)
-      by (At s) q =
+      by : (r : Option ℕ) → place_of f.stack (at f.list.held j) ≡ r → Kept k (open_at r f (at f.list.held j) j)
+      by None q = over k (without_list f o j l)
+      by (Some s) q =
           scoped_kept j s a q (not_first f o (at f.list.held j) (entry_root f o j l) s (place_found f.stack (at f.list.held j) s q).1)
 
   -- 4.3
@@ -136,9 +134,9 @@ module _ (k : ℕ) (f : Full) (o : SoundFull f) (room : f.nodes.used + (k + 4) <
   unfolding rounded entry_at
   rounded_kept g = by (entry_of f.nodes.mem f.list name) refl
     where
-      by : (r : Found) → entry_of f.nodes.mem f.list name ≡ r → Kept k (entry_at r f name)
-      by Nothing q = over k (end_sound f o name (formatting_ends name g))
-      by (At j) q = opened_kept j q
+      by : (r : Option ℕ) → entry_of f.nodes.mem f.list name ≡ r → Kept k (entry_at r f name)
+      by None q = over k (end_sound f o name (formatting_ends name g))
+      by (Some j) q = opened_kept j q
 
 -- 4.1, 4.2
 rounds_sound : (name : ℕ) → is_in Formatting space.html name ≡ true → (k : ℕ) (f : Full) → SoundFull f → f.nodes.used + 4 * k < slots NODES f.nodes.mem
@@ -178,9 +176,9 @@ agency_sound f o h name g = by (is_html f.nodes.mem top name) refl
         let b : field f.nodes.mem (at f.stack.held 0) NAME ≡ tag.html = rw o.sound.tree.stack.root o.sound.tree.top.name in
         absurd (eqb-false name tag.html (formatting_plain name g).no_html (sym a ∙ b))
 
-    pop : is_html f.nodes.mem top name ≡ true → (r : Found) → SoundFull (current_at r f name)
-    pop e Nothing = let d = two e (dec_lt 1 f.stack.size) in cut_stack f o (f.stack.size - 1) (omega arith) (omega arith)
-    pop e (At j) = all
+    pop : is_html f.nodes.mem top name ≡ true → (r : Option ℕ) → SoundFull (current_at r f name)
+    pop e None = let d = two e (dec_lt 1 f.stack.size) in cut_stack f o (f.stack.size - 1) (omega arith) (omega arith)
+    pop e (Some j) = all
 
     by : (b : Bool) → is_html f.nodes.mem top name ≡ b → SoundFull (cond b (current_at (place_of f.list top) f name) (rounds f name 8))
     by true e = pop e (place_of f.list top)
@@ -206,9 +204,9 @@ pub misnested_sound : (f : Full) → SoundFull f → SoundFull (misnested f).aft
 unfolding misnested misnested_at formatting places.at
 misnested_sound f o = (by (entry_of f.nodes.mem f.list tag.a) refl).sound
   where
-    by : (r : Found) → entry_of f.nodes.mem f.list tag.a ≡ r → Keeps (misnested_at r f)
-    by Nothing e = same_sound f o 0
-    by (At j) e =
+    by : (r : Option ℕ) → entry_of f.nodes.mem f.list tag.a ≡ r → Keeps (misnested_at r f)
+    by None e = same_sound f o 0
+    by (Some j) e =
         either (few_nodes f) (λ d. same_sound f o 4)
         (λ d. record {
           sound =

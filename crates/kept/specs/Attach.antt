@@ -1,7 +1,7 @@
 -- A node that has no parent is put at a place, after the last child of a node or right before one: a sound state stays sound, if the
 -- order does. What is asked of the place is `Spot`.
 -- Assumes nothing.
-use Rattle.std.specs.Prelude.{ℕ, ◌≤◌, ◌<◌, ◌≡◌, ◌≢◌, ◌⊎◌, List, [], ◌∷◌, ◌++◌, length, take}
+use Rattle.std.specs.Prelude.{ℕ, ◌≤◌, ◌<◌, ◌≡◌, ◌≢◌, ◌⊎◌, List, [], ◌∷◌, ◌++◌, length, take, Option}
 use Rattle.std.proofs.Common.{sym, ◌∙◌, inl, inr, arith}
 use Rattle.std.proofs.Math.Decide.{ℕ_discrete}
 use Rattle.theory.specs.Fn.{Upd, put, put_upd}
@@ -83,7 +83,7 @@ child_up {m} {m'} {x = x} w d =
       old = λ n e. up_same m m' n (w.fields n KIND kind_free) (w.fields n TIE tie_free) (w.parents.old n e);
     }
 
-module _ {m p q l f t : List ℕ} {c v u d k s foster head : ℕ} {x : Context} (o : Sound m p q l f t c v u d k s foster head x) where
+module _ {m p q l f t : List ℕ} {c v u d k s foster head : ℕ} {x : Option Context} (o : Sound m p q l f t c v u d k s foster head x) where
   pub forest : Forest m c o.tree.children.kids
   forest =
       record {

@@ -1,7 +1,7 @@
 -- The attribute pairs of a new element: stored past the used ones they leave the old ones as they were, and where the test allowed
 -- them each has a known name, and no two the same.
 -- Assumes nothing.
-use Rattle.std.specs.Prelude.{ℕ, zero, suc, ◌+◌, ◌≤◌, ◌<◌, ◌≡◌, refl, ◌≢◌, true, false, not, List, [], ◌∷◌, ◌++◌, length, eqb}
+use Rattle.std.specs.Prelude.{ℕ, zero, suc, ◌+◌, ◌≤◌, ◌<◌, ◌≡◌, refl, ◌≢◌, true, false, not, List, [], ◌∷◌, ◌++◌, length, eqb, Option}
 use Rattle.std.proofs.Common.{sym, ap, ◌∙◌, arith}
 use Rattle.std.proofs.Math.Decide.{ℕ_discrete, dec_lt}
 use Rattle.std.proofs.lemmas.Bool.{eqb-false, not-true}
@@ -125,7 +125,7 @@ stored_apart q u (x ∷ ps) earlier e h i j a b d =
 
 -- ---- a sound state
 
-module _ {m p q l f t : List ℕ} {c v u d k s foster head : ℕ} {x : Context} (o : Sound m p q l f t c v u d k s foster head x)
+module _ {m p q l f t : List ℕ} {c v u d k s foster head : ℕ} {x : Option Context} (o : Sound m p q l f t c v u d k s foster head x)
     (ps : List (ℕ × ℕ)) (ok : fine [] ps ≡ true) (room : u + length ps ≤ slots PAIRS q) where
   pub stored_distinct : Distinct (stored q u ps) u (length ps)
   stored_distinct =

@@ -1,6 +1,6 @@
 -- A begin that is done leaves a sound state, whatever the lent bytes held before.
 -- Assumes nothing.
-use Rattle.std.specs.Prelude.{ℕ, ◌≤◌, ◌<◌, min, ◌≡◌, ◌≢◌, Bool, true, false, cond, not, List, [], ◌∷◌, ◌++◌, length, take, set, replicate, eqb, ltb}
+use Rattle.std.specs.Prelude.{ℕ, ◌≤◌, ◌<◌, min, ◌≡◌, ◌≢◌, Bool, true, false, cond, not, List, [], ◌∷◌, ◌++◌, length, take, set, replicate, eqb, ltb, None, Option, Some}
 use Rattle.std.proofs.Common.{refl, ◌∙◌, length-set, get_or-set_same, ltb-false, eqb-true, ne_eqb, arith}
 use Rattle.std.proofs.Math.Decide.{ℕ_discrete}
 use Rattle.std.proofs.lemmas.List.{length-replicate}
@@ -24,7 +24,6 @@ use Rattle.arena.proofs.Ancestors.{kind_free, up_parent, up_same, appended_up}
 use Rattle.nodes.specs.Nodes.{SPARE, Kind}
 use Rattle.texts.specs.Words.{Words}
 use Rattle.state.specs.declared.Context.{Context}
-use Rattle.state.specs.declared.Context.TheVariants.{None, Element}
 use Rattle.state.specs.Fields.{core_of}
 use Rattle.state.specs.Full.{full}
 use Rattle.sound.specs.Sound.{Tree, Modes, Allowed}
@@ -53,13 +52,13 @@ good_mark ns name mark e d =
     (eqb-true _ _ a.0, eqb-true _ _ b.0, eqb-true _ _ b.1)
 
 -- a context that is not refused is one that there may be
-good_context : (x : Context) → bad_context x ≡ false → Allowed x
+good_context : (x : Option Context) → bad_context x ≡ false → Allowed x
 unfolding bad_context Allowed
 good_context None e = tt
-good_context (Element ns name mark) e =
-    let a = or_false (ltb 2 ns) _ e in
-    let b = or_false (not (is_name name)) _ a.1 in
-    record { spaced = omega (arith, ltb-false 2 ns a.0); named = not-false _ b.0; marked = good_mark ns name mark b.1 }
+good_context (Some x) e =
+    let a = or_false (ltb 2 x.space) _ e in
+    let b = or_false (not (is_name x.name)) _ a.1 in
+    record { spaced = omega (arith, ltb-false 2 x.space a.0); named = not-false _ b.0; marked = good_mark x.space x.name x.mark b.1 }
 
 -- ---- the nodes
 
@@ -263,7 +262,7 @@ module _ (n : List ℕ) (room : 2 < slots NODES n) where
 
 -- ---- the modes
 
-begin_modes_lem : (m : List ℕ) (x : Context) → ltb (min (length m) 64) (first_modes x) ≡ false
+begin_modes_lem : (m : List ℕ) (x : Option Context) → ltb (min (length m) 64) (first_modes x) ≡ false
     → (first_modes x ≤ 64) × (first_modes x ≤ length (begin_modes m x)) × Modes (begin_modes m x) (first_modes x)
 unfolding first_modes begin_modes
 begin_modes_lem m x e = by (is_template_context x) e
@@ -280,7 +279,7 @@ begin_modes_lem m x e = by (is_template_context x) e
 
 -- ---- the state
 
-pub begin_sound : (n l m p q : List ℕ) (x : Context) → begin_answer n m x ≡ 0
+pub begin_sound : (n l m p q : List ℕ) (x : Option Context) → begin_answer n m x ≡ 0
     → SoundFull (full (begin_state x).stack.handles (core_of (begin_state x)) x (begin_nodes n) l (begin_modes m x) p q)
 unfolding begin_state core_of begin_answer
 begin_sound n l m p q x e =

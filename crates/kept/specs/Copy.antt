@@ -1,6 +1,6 @@
 -- One more element, without contents: it is what its kind asks for. And a copy of a formatting entry, which shares the attributes.
 -- Assumes nothing.
-use Rattle.std.specs.Prelude.{ℕ, ◌<◌, ◌≡◌, ◌≢◌, Bool, true, false, ◌&&◌, List, eqb}
+use Rattle.std.specs.Prelude.{ℕ, ◌<◌, ◌≡◌, ◌≢◌, Bool, true, false, ◌&&◌, List, eqb, Option}
 use Rattle.std.proofs.Common.{sym, ◌∙◌, arith, eq-eqb}
 use Rattle.theory.specs.Fn.{at}
 use Rattle.names.specs.Space as space
@@ -56,7 +56,7 @@ single_name ns name e = rw e (by (eqb ns 0))
     by true = cc
     by false = cc
 
-module _ {m p q l f t : List ℕ} {c v u d k s foster head : ℕ} {x : Context} (o : Sound m p q l f t c v u d k s foster head x) where
+module _ {m p q l f t : List ℕ} {c v u d k s foster head : ℕ} {x : Option Context} (o : Sound m p q l f t c v u d k s foster head x) where
   pub entry_copyable : (i : ℕ) → i < k → at f i ≢ MARKER → Copyable m q u (at f i)
   unfolding tag_of is_template
   entry_copyable i b z =

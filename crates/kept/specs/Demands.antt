@@ -1,7 +1,7 @@
 -- The three demands, each as one statement over the whole interface: no call, run or begin sticks, each is refused exactly when the
 -- answer table says and then changes nothing, each keeps a sound state sound, and an adoption takes 32 nodes at most.
 -- Assumes nothing.
-use Rattle.std.specs.Prelude.{ℕ, ◌+◌, ◌≤◌, ◌≡◌, ◌≢◌, true, List}
+use Rattle.std.specs.Prelude.{ℕ, ◌+◌, ◌≤◌, ◌≡◌, ◌≢◌, true, List, Option}
 use Rattle.records.specs.declared.Record.{Record}
 use Rattle.state.specs.declared.Context.{Context}
 use Rattle.state.specs.declared.State.{State}
@@ -62,12 +62,12 @@ runs_never_stick s f ok =
 
 -- ---- a begin, from any bytes and any record
 
-pub record Starts (st : State) (n l m p q : List ℕ) (x : Context) : Type 0 where
+pub record Starts (st : State) (n l m p q : List ℕ) (x : Option Context) : Type 0 where
   pub answers : Begins (begin_answer n m x)
   pub kept : begin_answer n m x ≢ 0 → begin_of st n m x ≡ begun (begin_answer n m x) st n m
   pub sound : begin_answer n m x ≡ 0 → SoundFull (full (begin_state x).stack.handles (core_of (begin_state x)) x (begin_nodes n) l (begin_modes m x) p q)
 
-pub begin_never_sticks : (st : State) (n l m p q : List ℕ) (x : Context) → Starts st n l m p q x
+pub begin_never_sticks : (st : State) (n l m p q : List ℕ) (x : Option Context) → Starts st n l m p q x
 begin_never_sticks st n l m p q x =
     record { answers = begin_answers n m x; kept = begin_refused st n m x; sound = begin_sound n l m p q x }
 

@@ -1,6 +1,6 @@
 -- An element that is not the root leaves its parent, if it has one: a sound state stays sound, and nothing but links changes.
 -- Assumes nothing.
-use Rattle.std.specs.Prelude.{ℕ, ◌≤◌, ◌<◌, ◌≡◌, refl, ◌≢◌, ◌⊎◌, List, ◌∷◌, ◌++◌}
+use Rattle.std.specs.Prelude.{ℕ, ◌≤◌, ◌<◌, ◌≡◌, refl, ◌≢◌, ◌⊎◌, List, ◌∷◌, ◌++◌, Option}
 use Rattle.std.proofs.Common.{sym, ◌∙◌, inl, inr, arith}
 use Rattle.std.proofs.Math.Decide.{ℕ_discrete}
 use Rattle.theory.specs.Fn.{Upd, put, put_upd}
@@ -26,7 +26,7 @@ use Rattle.kept.specs.Usual.{has_first}
 pub detached_kind : (m : List ℕ) (n y : ℕ) → field (detached m n) y KIND ≡ field m y KIND
 detached_kind m n y = detached_field m y KIND kind_free n
 
-module _ {m p q l f t : List ℕ} {c v u d k s foster head : ℕ} {x : Context} (o : Sound m p q l f t c v u d k s foster head x)
+module _ {m p q l f t : List ℕ} {c v u d k s foster head : ℕ} {x : Option Context} (o : Sound m p q l f t c v u d k s foster head x)
     (n : ℕ) (nz : 0 < n) (nc : n ≤ c) (ne : field m n KIND ≡ ELEMENT) where
   -- its place among the children of its parent
   place : field m n PARENT ≢ 0 → (a : List ℕ) × (b : List ℕ) × (o.tree.children.kids (field m n PARENT) ≡ a ++ n ∷ b)

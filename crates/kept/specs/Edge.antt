@@ -1,9 +1,8 @@
 -- The check at the edge looks at the lent places as they are; the definitions of the calls see what is in use of them. The rules
 -- look below the counts alone, so a state is sound in the one sense exactly where it is in the other.
 -- Assumes nothing.
-use Rattle.std.specs.Prelude.{ℕ, ◌≤◌, ◌≡◌, ◌↔◌, List, length}
+use Rattle.std.specs.Prelude.{ℕ, ◌≤◌, ◌≡◌, ◌↔◌, List, length, Option}
 use Rattle.std.proofs.Common.{arith, length-take, length-drop}
-use Rattle.places.specs.Places.{places_of}
 use Rattle.places.proofs.Laws.{whole_of, of_whole}
 use Rattle.state.specs.Full.{full}
 use Rattle.state.specs.declared.Core.{Core}
@@ -13,7 +12,7 @@ use Rattle.sound.specs.State.{SoundFull}
 use Rattle.kept.specs.Front.{Front, front_back, front_take, order_front, open_front, entries_front, modes_front}
 
 -- other places with the same entries below the counts
-pub sound_front : {m p q l l' f f' t t' : List ℕ} {c v u d k s foster head : ℕ} {x : Context} → Sound m p q l f t c v u d k s foster head x
+pub sound_front : {m p q l l' f f' t t' : List ℕ} {c v u d k s foster head : ℕ} {x : Option Context} → Sound m p q l f t c v u d k s foster head x
     → d ≤ length l' → k ≤ length f' → s ≤ length t' → Front l l' d → Front f f' k → Front t t' s → Sound m p q l' f' t' c v u d k s foster head x
 sound_front o a b e g h i =
     record {
@@ -34,11 +33,10 @@ sound_front o a b e g h i =
       settings = o.settings;
     }
 
-module _ (s : List ℕ) (c : Core) (x : Context) (n l m p q : List ℕ) where
+module _ (s : List ℕ) (c : Core) (x : Option Context) (n l m p q : List ℕ) where
   pub full_sound : length s ≡ 512
       → Sound n p q s l m c.counts.nodes c.counts.pieces c.counts.pairs c.depth c.counts.list c.counts.modes c.flags.foster c.flags.head x
       ↔ SoundFull (full s c x n l m p q)
-  unfolding places_of
   full_sound e = (
     λ o.
         record {

@@ -2,7 +2,7 @@
 -- `Refusals` says so.
 -- Assumes nothing.
 use Rattle.std.proofs.Common.{ℕ, zero, suc, ◌+◌, ◌-◌, ◌<◌, ◌≤◌, ◌≡◌, refl, sym, ◌∙◌, eq-eqb, ne_eqb, lt-ltb, le-ltb, true, false, cond, arith, ltb}
-use Rattle.std.specs.Prelude.{◌≢◌, Bool, not, ◌&&◌, ◌||◌, List, eqb}
+use Rattle.std.specs.Prelude.{◌≢◌, Bool, not, ◌&&◌, ◌||◌, List, eqb, None, Option, Some, ℕ}
 use Rattle.std.proofs.Math.Decide.{ℕ_discrete, dec_lt}
 use Rattle.names.specs.Tag as tag
 use Rattle.names.specs.Space as space
@@ -10,8 +10,6 @@ use Rattle.names.specs.Sets.{ButtonScope, TableScope}
 use Rattle.lent.specs.Room.{free_nodes}
 use Rattle.makers.specs.Make.{nodes_of}
 use Rattle.places.specs.Places.{pushed, cut, place_of}
-use Rattle.places.specs.declared.Found.{Found}
-use Rattle.places.specs.declared.Found.TheVariants.{At, Nothing}
 use Rattle.records.specs.declared.Record.{Record}
 use Rattle.state.specs.Full.{Full, Result, refused, done, with_stack, with_list, with_modes}
 use Rattle.standard.specs.Place.{text_before}
@@ -192,9 +190,9 @@ module _ (s : List ℕ) (f : Full) (r : Record) where
   unfolding misnested misnested_at misnested_refusals is_found lowest least applies
   misnested_exact = by (entry_of f.nodes.mem f.list tag.a)
     where
-      by : (o : Found) → (misnested_at o f).answer ≡ lowest (refusals false false (is_found o && few_nodes f) false false false false)
-      by Nothing = refl
-      by (At j) = chain_24 f _ false (few_nodes f)
+      by : (o : Option ℕ) → (misnested_at o f).answer ≡ lowest (refusals false false (is_found o && few_nodes f) false false false false)
+      by None = refl
+      by (Some j) = chain_24 f _ false (few_nodes f)
 
   close_p_exact : (closed_p f).answer ≡ lowest (close_p_refusals f)
   unfolding closed_p close_p_refusals

@@ -1,7 +1,7 @@
 -- An entry of the stack leaves, and a new one comes in right after another: what 4.19 of the adoption agency makes of the stack. The
 -- order, and the rules on open elements.
 -- Assumes nothing.
-use Rattle.std.specs.Prelude.{ℕ, suc, ◌+◌, ◌-◌, ◌≤◌, ◌<◌, ◌≡◌, refl, List, [], ◌∷◌, ◌++◌, length, take, drop}
+use Rattle.std.specs.Prelude.{ℕ, suc, ◌+◌, ◌-◌, ◌≤◌, ◌<◌, ◌≡◌, refl, List, [], ◌∷◌, ◌++◌, length, take, drop, None, Option, Some}
 use Rattle.std.proofs.Common.{sym, ◌∙◌, arith, take-suc, eqb-true}
 use Rattle.std.proofs.Math.Decide.{ℕ_discrete, dec_lt}
 use Rattle.std.proofs.Math.Seq.{split_at, append_snoc}
@@ -11,8 +11,6 @@ use Rattle.theory.specs.Ord.{Ord, remove, Wrap, wrap}
 use Rattle.theory.specs.Natural.{Natural, natural→ord, ord→natural}
 use Rattle.lent.specs.Mem.{field, KIND, ELEMENT}
 use Rattle.places.specs.Places.{Places, without, within, down, same, never, last_with, place_of, after_at, exchanged, exchanged_at}
-use Rattle.places.specs.declared.Found.{Found}
-use Rattle.places.specs.declared.Found.TheVariants.{At, Nothing}
 use Rattle.places.proofs.Laws.{down_last}
 use Rattle.sound.specs.Sound.{Open}
 use Rattle.kept.specs.Search.{down_past, after_none}
@@ -22,7 +20,7 @@ use Rattle.kept.specs.Leave.{more_low, more_here, more_high}
 
 pub record FoundAt (p : Places) (n : ℕ) : Type 0 where
   pub place : ℕ
-  pub found : place_of p n ≡ At place
+  pub found : place_of p n ≡ Some place
   pub below : place < length p.held
   pub is : at p.held place ≡ n
 
@@ -31,15 +29,15 @@ pub found_at : (p : Places) (n i : ℕ) → i < length p.held → at p.held i �
 unfolding place_of last_with
 found_at p n i h e = by (down (same n) never p.held (length p.held)) refl
   where
-    by : (r : Found) → down (same n) never p.held (length p.held) ≡ r → FoundAt p n
-    by Nothing g =
+    by : (r : Option ℕ) → down (same n) never p.held (length p.held) ≡ r → FoundAt p n
+    by None g =
         let t = (down_past (same n) p.held (length p.held)).none i (rw (g, after_none) (omega arith)) h in
         absurd (eqb-false (at p.held i) n t e)
-    by (At j) g =
+    by (Some j) g =
         let t = down_last (same n) never p.held (length p.held) j g in
         record { place = j; found = g; below = t.below; is = eqb-true (at p.held j) n t.has }
 
-pub exchanged_is : (p : Places) (f x n j i : ℕ) → place_of p f ≡ At j → place_of (without p j) x ≡ At i → exchanged p f x n ≡ within (without p j) (i + 1) n
+pub exchanged_is : (p : Places) (f x n j i : ℕ) → place_of p f ≡ Some j → place_of (without p j) x ≡ Some i → exchanged p f x n ≡ within (without p j) (i + 1) n
 unfolding exchanged exchanged_at after_at
 exchanged_is p f x n j i e g = rw (e, g)
 

@@ -1,6 +1,6 @@
 -- Every call, on any bytes and in any state, has one of the answers below, and a call that is refused changes nothing.
 -- Assumes nothing.
-use Rattle.std.specs.Prelude.{ℕ, ◌-◌, ◌≤◌, ◌≡◌, refl, ◌≢◌, ◌⊎◌, Bool, true, false, cond, ◌&&◌, ◌||◌, List, eqb}
+use Rattle.std.specs.Prelude.{ℕ, ◌-◌, ◌≤◌, ◌≡◌, refl, ◌≢◌, ◌⊎◌, Bool, true, false, cond, ◌&&◌, ◌||◌, List, eqb, None, Option, Some}
 use Rattle.std.proofs.Common.{inl, inr, arith, not, ltb}
 use Rattle.names.specs.Tag as tag
 use Rattle.names.specs.Space as space
@@ -9,8 +9,6 @@ use Rattle.makers.specs.Make.{nodes_of}
 use Rattle.lent.specs.Room.{free_nodes, free_pieces, free_pairs}
 use Rattle.makers.specs.declared.make.Tag.{Tag}
 use Rattle.places.specs.Places.{Places}
-use Rattle.places.specs.declared.Found.{Found}
-use Rattle.places.specs.declared.Found.TheVariants.{At, Nothing}
 use Rattle.records.specs.declared.Record.{Record}
 use Rattle.state.specs.Full.{Full, Result, refused, done}
 use Rattle.standard.specs.declared.Place.{Place}
@@ -135,9 +133,9 @@ module _ (f : Full) where
   unfolding misnested misnested_at
   fair_misnested = by (entry_of f.nodes.mem f.list tag.a)
     where
-      by : (o : Found) → Fair f (misnested_at o f)
-      by Nothing = fair_yes f f
-      by (At j) = fair_or (few_nodes f) (no 4 (omega arith) (omega arith)) (fair_yes f _)
+      by : (o : Option ℕ) → Fair f (misnested_at o f)
+      by None = fair_yes f f
+      by (Some j) = fair_or (few_nodes f) (no 4 (omega arith) (omega arith)) (fair_yes f _)
 
   fair_ended : (name : ℕ) → Fair f (ended f name)
   unfolding ended

@@ -2,7 +2,7 @@
 -- furthest block, and takes the place of the formatting element in stack and list. A sound state stays sound.
 -- Assumes nothing.
 use Rattle.std.proofs.Common.{ℕ, suc, ◌+◌, ◌-◌, ◌≤◌, ◌<◌, refl, ap, sym, ◌∙◌, take_all, ltb-false, arith, add-one, length}
-use Rattle.std.specs.Prelude.{◌≡◌, ◌≢◌, Bool, true, false, cond, List, ltb}
+use Rattle.std.specs.Prelude.{◌≡◌, ◌≢◌, Bool, true, false, cond, List, ltb, Some}
 use Rattle.std.proofs.Math.Decide.{dec_lt}
 use Rattle.names.specs.Tag as tag
 use Rattle.theory.specs.Fn.{at}
@@ -16,7 +16,6 @@ use Rattle.arena.proofs.Ancestors.{kind_free}
 use Rattle.nodes.specs.Nodes.{Template}
 use Rattle.places.specs.Places as places
 use Rattle.places.specs.Places.{Places, Whole, without, within, place_of}
-use Rattle.places.specs.declared.Found.TheVariants.{At}
 use Rattle.state.specs.Full.{Full, with_stack, with_list, with_nodes}
 use Rattle.sound.specs.State.{SoundFull}
 use Rattle.standard.specs.Html.{is_html}
@@ -56,7 +55,7 @@ gone_le p j d h l = by (ltb j p) refl
     by true e = omega arith
     by false e = omega (arith, ltb-false j p e)
 
-relisted_is : (p : ℕ) (l : Places) (x n j : ℕ) → place_of l x ≡ At j → relisted p l x n ≡ within (without l j) (gone p j) n
+relisted_is : (p : ℕ) (l : Places) (x n j : ℕ) → place_of l x ≡ Some j → relisted p l x n ≡ within (without l j) (gone p j) n
 unfolding relisted at_mark
 relisted_is p l x n j e = rw e
 
@@ -205,14 +204,14 @@ module _ (f : Full) (s : SoundFull f) (a b j : ℕ) (az : 0 < a) (ad : suc a < f
 
   -- ---- all of it
 
-  fe_place : place_of f.stack (at f.stack.held a) ≡ At a
+  fe_place : place_of f.stack (at f.stack.held a) ≡ Some a
   unfolding places.at
   fe_place = by (dec_lt fe.place a) (dec_lt a fe.place)
     where
       fe : FoundAt f.stack (at f.stack.held a)
       fe = found_at f.stack (at f.stack.held a) a (omega (arith, s.stack.all)) refl
 
-      by : Dec (fe.place < a) → Dec (a < fe.place) → place_of f.stack (at f.stack.held a) ≡ At a
+      by : Dec (fe.place < a) → Dec (a < fe.place) → place_of f.stack (at f.stack.held a) ≡ Some a
       by (yes h) g = absurd (stack_once f s fe.place a h (omega arith) fe.is)
       by (no h) (yes g) = absurd (stack_once f s a fe.place g (omega (arith, fe.below, s.stack.all)) (sym fe.is))
       by (no h) (no g) = let e : fe.place ≡ a = omega arith in rw e at fe.found

@@ -1,7 +1,7 @@
 -- Creating an element for a formatting tag, and reconstructing the active formatting elements, keep a sound state sound.
 -- Assumes nothing.
 use Rattle.std.proofs.Common.{ℕ, suc, ◌+◌, ◌≤◌, ◌<◌, refl, ◌∙◌, true, arith, add-one, ltb-true}
-use Rattle.std.specs.Prelude.{◌≡◌, ◌≢◌, false, not, List, [], length, ltb}
+use Rattle.std.specs.Prelude.{◌≡◌, ◌≢◌, false, not, List, [], length, ltb, None, Option, Some, ℕ}
 use Rattle.std.proofs.Math.Decide.{ℕ_discrete}
 use Rattle.std.proofs.lemmas.Bool.{not-false}
 use Rattle.theory.specs.Fn.{at}
@@ -16,8 +16,6 @@ use Rattle.makers.proofs.Made.{plain_fields}
 use Rattle.arena.proofs.Ancestors.{kind_free}
 use Rattle.nodes.specs.Nodes as nodes
 use Rattle.places.specs.Places.{Places, Whole, pushed, left_at}
-use Rattle.places.specs.declared.Found.{Found}
-use Rattle.places.specs.declared.Found.TheVariants.{At, Nothing}
 use Rattle.state.specs.Full.{Full, with_nodes, with_pairs, with_stack}
 use Rattle.sound.specs.Sound.{Entries, MARKER}
 use Rattle.sound.specs.State.{SoundFull}
@@ -52,15 +50,15 @@ record Rest (m : List ℕ) (c : ℕ) (l p : Places) : Type 0 where
   whole : Whole p
   entries : Entries m c p.held p.size
 
-rest : {m : List ℕ} {c : ℕ} (l : Places) → Whole l → Entries m c l.held l.size → (o : Found) → ((i : ℕ) → o ≡ At i → i < l.size) → Rest m c l (left_at o l)
+rest : {m : List ℕ} {c : ℕ} (l : Places) → Whole l → Entries m c l.held l.size → (o : Option ℕ) → ((i : ℕ) → o ≡ Some i → i < l.size) → Rest m c l (left_at o l)
 unfolding left_at
-rest l w e Nothing h = record { whole = w; entries = e }
-rest l w e (At i) h = record { whole = without_whole l w i (h i refl); entries = entries_without l w i (h i refl) e }
+rest l w e None h = record { whole = w; entries = e }
+rest l w e (Some i) h = record { whole = without_whole l w i (h i refl); entries = entries_without l w i (h i refl) e }
 
 -- ---- 4
 
 module _ (f : Full) (s : SoundFull f) (t : Tag) (ps : List (ℕ × ℕ)) (html : t.space ≡ space.html) (named : is_in Formatting space.html t.name ≡ true)
-    (single : is_template t ≡ false) (o : Found) (low : (i : ℕ) → o ≡ At i → i < f.list.size) where
+    (single : is_template t ≡ false) (o : Option ℕ) (low : (i : ℕ) → o ≡ Some i → i < f.list.size) where
   -- the new element may come into the list
   listable : suc f.nodes.used < slots NODES f.nodes.mem
       → New (element_done f t ps true).nodes.mem (element_done f t ps true).nodes.used (left_at o f.list).held (suc f.nodes.used)
@@ -91,7 +89,7 @@ module _ (f : Full) (s : SoundFull f) (t : Tag) (ps : List (ℕ × ℕ)) (html :
       (entries_more w.entries w.whole.all (listable h)))
 
 module _ (f : Full) (s : SoundFull f) where
-  created_room_lem : (t : Tag) (ps : List (ℕ × ℕ)) (o : Found) → ((i : ℕ) → o ≡ At i → i < f.list.size) → t.space ≡ space.html → is_in Formatting space.html t.name ≡ true
+  created_room_lem : (t : Tag) (ps : List (ℕ × ℕ)) (o : Option ℕ) → ((i : ℕ) → o ≡ Some i → i < f.list.size) → t.space ≡ space.html → is_in Formatting space.html t.name ≡ true
       → is_template t ≡ false → nodes.Tag t.space t.name t.mark → t.count ≤ 16 → t.start ≡ f.pairs.used → length ps ≡ t.count → fine [] ps ≡ true
       → Keeps (created_room f t ps (left_at o f.list))
   unfolding created_room room

@@ -1,7 +1,7 @@
 -- The adoption agency, 4.3 to 4.13, where a furthest block is found: what the searches say of the formatting element and of the block,
 -- and that the inner loop keeps a sound state sound from there.
 -- Assumes nothing.
-use Rattle.std.specs.Prelude.{ℕ, suc, ◌+◌, ◌≤◌, ◌<◌, ◌≡◌, ◌≢◌, Bool, true, false, List, length, eqb}
+use Rattle.std.specs.Prelude.{ℕ, suc, ◌+◌, ◌≤◌, ◌<◌, ◌≡◌, ◌≢◌, Bool, true, false, List, length, eqb, Some}
 use Rattle.std.proofs.Common.{refl, sym, ◌∙◌, eqb-true, arith}
 use Rattle.std.proofs.Math.Decide.{ℕ_discrete, dec_lt}
 use Rattle.std.proofs.lemmas.Bool.{eqb-false}
@@ -14,7 +14,6 @@ use Rattle.lent.specs.Mem.{NODES, slots, field, KIND, SPACE, NAME, ELEMENT}
 use Rattle.arena.proofs.Lengths.{slots_same}
 use Rattle.places.specs.Places as places
 use Rattle.places.specs.Places.{same, never, place_of, last_with}
-use Rattle.places.specs.declared.Found.TheVariants.{At}
 use Rattle.places.proofs.Laws.{down_last}
 use Rattle.places.proofs.First.{first_from}
 use Rattle.state.specs.Full.{Full}
@@ -43,8 +42,8 @@ pub record Blocked (f : Full) (s j p : ℕ) : Type 0 where
   pub special : is_of Special f.nodes.mem (at f.stack.held p) ≡ true
   pub clear : (k : ℕ) → s < k → k < f.stack.size → is_of DefaultScope f.nodes.mem (at f.stack.held k) ≡ false
 
-pub blocked_at : (f : Full) → SoundFull f → (name j s k p : ℕ) → entry_of f.nodes.mem f.list name ≡ At j → place_of f.stack (places.at f.list j) ≡ At s
-    → in_scope DefaultScope (same (places.at f.list j)) f.nodes.mem f.stack ≡ At k → furthest_of f.nodes.mem f.stack s ≡ At p → Blocked f s j p
+pub blocked_at : (f : Full) → SoundFull f → (name j s k p : ℕ) → entry_of f.nodes.mem f.list name ≡ Some j → place_of f.stack (places.at f.list j) ≡ Some s
+    → in_scope DefaultScope (same (places.at f.list j)) f.nodes.mem f.stack ≡ Some k → furthest_of f.nodes.mem f.stack s ≡ Some p → Blocked f s j p
 unfolding entry_of place_of last_with in_scope furthest_of places.at
 blocked_at f o name j s k p a b c d =
     let fe = at f.list.held j in

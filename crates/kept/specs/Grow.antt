@@ -1,6 +1,6 @@
 -- One more node, without a parent, and then put at a place: a sound state stays sound, if the node is what its kind asks for.
 -- Assumes nothing.
-use Rattle.std.specs.Prelude.{ℕ, suc, ◌+◌, ◌*◌, ◌≤◌, ◌<◌, ◌≡◌, refl, ◌≢◌, true, List, [], ◌∷◌, ◌++◌, length, take, ltb}
+use Rattle.std.specs.Prelude.{ℕ, suc, ◌+◌, ◌*◌, ◌≤◌, ◌<◌, ◌≡◌, refl, ◌≢◌, true, List, [], ◌∷◌, ◌++◌, length, take, ltb, Option}
 use Rattle.std.proofs.Common.{sym, ◌∙◌, arith, lt-ltb}
 use Rattle.theory.specs.Fn.{Upd}
 use Rattle.theory.specs.Ord.{born, push}
@@ -69,7 +69,7 @@ module _ {m m' : List ℕ} {c : ℕ} (w : Old m m' c) where
 pub upd_upd : {a b c : ℕ → ℕ} {n x y : ℕ} → Upd a b n x → Upd b c n y → Upd a c n y
 upd_upd h k = record { new = k.new; old = λ i d. k.old i d ∙ h.old i d }
 
-module _ {m p q l f t : List ℕ} {c v u d k s foster head : ℕ} {x : Context} (o : Sound m p q l f t c v u d k s foster head x)
+module _ {m p q l f t : List ℕ} {c v u d k s foster head : ℕ} {x : Option Context} (o : Sound m p q l f t c v u d k s foster head x)
     {m' p' : List ℕ} {v' : ℕ} (w : Made m m' (suc c)) (room : suc c < slots NODES m) (new : Kind m' q (suc c) u (suc c)) (nc : field m' (suc c) KIND ≢ CONTENTS)
     (words : Words m' p' (suc c) v') (long : (v' ≤ 8192) × (0 < v' → (v' + 1) * 4 ≤ length p')) where
   pub up_made : Upd (up m) (up m') (suc c) 0

@@ -1,7 +1,7 @@
 -- Nodes, pieces and pairs are not given back: no call, and no run, uses fewer of them after it than before it. Only a begin starts anew.
 -- Assumes nothing.
-use Rattle.std.specs.Prelude.{ℕ, zero, suc, ◌+◌, ◌-◌, ◌≤◌, ◌≡◌, Bool, cond, ◌&&◌, ◌||◌, List, length, eqb}
-use Rattle.std.proofs.Common.{refl, true, false, not, arith, ltb}
+use Rattle.std.specs.Prelude.{ℕ, zero, suc, ◌+◌, ◌-◌, ◌≤◌, ◌≡◌, Bool, cond, ◌&&◌, ◌||◌, List, length, eqb, None, Option, Some}
+use Rattle.std.proofs.Common.{refl, true, false, not, arith, ltb, Ok, Err}
 use Rattle.names.specs.Tag as tag
 use Rattle.names.specs.Space as space
 use Rattle.names.specs.Sets.{is_in, Formatting, DefaultScope, ButtonScope, TableScope}
@@ -9,12 +9,8 @@ use Rattle.makers.specs.Make.{nodes_of}
 use Rattle.lent.specs.Room.{free_nodes, free_pieces, free_pairs}
 use Rattle.makers.specs.declared.make.Tag.{Tag}
 use Rattle.places.specs.Places.{at, same, place_of}
-use Rattle.places.specs.declared.Found.{Found}
-use Rattle.places.specs.declared.Found.TheVariants.{At, Nothing}
 use Rattle.records.specs.declared.Record.{Record}
-use Rattle.records.specs.declared.Item.{Item}
-use Rattle.records.specs.declared.Item.TheVariants as is
-use Rattle.records.specs.Record.{item_at}
+use Rattle.records.specs.Record.{item_at, Item}
 use Rattle.state.specs.Full.{Full, Result, with_stack, with_list, with_modes, with_flags, with_nodes, with_pieces, with_pairs}
 use Rattle.standard.specs.Html.{is_html, current}
 use Rattle.standard.specs.Place.{text_before}
@@ -177,10 +173,10 @@ module _ (f : Full) where
 
 -- ---- the adoption agency
 
-turn_grows : (q : Found) (w : Inner) (block i c : ℕ) → Grows w.full (turn_at q w block i c).full
+turn_grows : (q : Option ℕ) (w : Inner) (block i c : ℕ) → Grows w.full (turn_at q w block i c).full
 unfolding turn_at left_stack left_both renewed_at renewed_in with_stack with_list with_nodes
-turn_grows Nothing w block i c = stays refl refl refl
-turn_grows (At j) w block i c =
+turn_grows None w block i c = stays refl refl refl
+turn_grows (Some j) w block i c =
     inner_or (ltb 3 c) _ _ (stays refl refl refl) (record { nodes = omega arith; pieces = omega arith; pairs = omega arith })
 
 inner_grows : (k c : ℕ) (w : Inner) (fe block : ℕ) → Grows w.full (inner w fe block c k).full
@@ -198,25 +194,25 @@ adopted_grows : (f : Full) (fe s j b : ℕ) → Grows f (adopted f fe s j b)
 unfolding adopted started
 adopted_grows f fe s j b = grows_on (inner_grows b 0 (started f (at f.stack b) j) fe (at f.stack b)) (finished_grows _ fe (at f.stack b) _)
 
-block_grows : (q : Found) (f : Full) (fe s j : ℕ) → Grows f (block_at q f fe s j).after
+block_grows : (q : Option ℕ) (f : Full) (fe s j : ℕ) → Grows f (block_at q f fe s j).after
 unfolding block_at with_stack with_list
-block_grows Nothing f fe s j = stays refl refl refl
-block_grows (At b) f fe s j = adopted_grows f fe s j b
+block_grows None f fe s j = stays refl refl refl
+block_grows (Some b) f fe s j = adopted_grows f fe s j b
 
-scope_grows : (q : Found) (f : Full) (fe s j : ℕ) → Grows f (scope_at q f fe s j).after
+scope_grows : (q : Option ℕ) (f : Full) (fe s j : ℕ) → Grows f (scope_at q f fe s j).after
 unfolding scope_at blocked
-scope_grows Nothing f fe s j = grows_same f
-scope_grows (At k) f fe s j = block_grows (furthest_of f.nodes.mem f.stack s) f fe s j
+scope_grows None f fe s j = grows_same f
+scope_grows (Some k) f fe s j = block_grows (furthest_of f.nodes.mem f.stack s) f fe s j
 
-open_grows : (q : Found) (f : Full) (fe j : ℕ) → Grows f (open_at q f fe j).after
+open_grows : (q : Option ℕ) (f : Full) (fe j : ℕ) → Grows f (open_at q f fe j).after
 unfolding open_at scoped with_list
-open_grows Nothing f fe j = stays refl refl refl
-open_grows (At s) f fe j = scope_grows (in_scope DefaultScope (same fe) f.nodes.mem f.stack) f fe s j
+open_grows None f fe j = stays refl refl refl
+open_grows (Some s) f fe j = scope_grows (in_scope DefaultScope (same fe) f.nodes.mem f.stack) f fe s j
 
-entry_grows : (q : Found) (f : Full) (name : ℕ) → Grows f (entry_at q f name).after
+entry_grows : (q : Option ℕ) (f : Full) (name : ℕ) → Grows f (entry_at q f name).after
 unfolding entry_at opened with_stack
-entry_grows Nothing f name = stays refl refl refl
-entry_grows (At j) f name = open_grows (place_of f.stack (at f.list j)) f (at f.list j) j
+entry_grows None f name = stays refl refl refl
+entry_grows (Some j) f name = open_grows (place_of f.stack (at f.list j)) f (at f.list j) j
 
 rounded_grows : (f : Full) (name : ℕ) → Grows f (rounded f name).after
 unfolding rounded
@@ -228,10 +224,10 @@ rounds_grows zero f name = grows_same f
 rounds_grows (suc k) f name =
     grows_or (rounded f name).again (grows_on (rounded_grows f name) (rounds_grows k (rounded f name).after name)) (rounded_grows f name)
 
-current_grows : (q : Found) (f : Full) (name : ℕ) → Grows f (current_at q f name)
+current_grows : (q : Option ℕ) (f : Full) (name : ℕ) → Grows f (current_at q f name)
 unfolding current_at with_stack
-current_grows Nothing f name = stays refl refl refl
-current_grows (At j) f name = rounds_grows 8 f name
+current_grows None f name = stays refl refl refl
+current_grows (Some j) f name = rounds_grows 8 f name
 
 agency_grows : (f : Full) (name : ℕ) → Grows f (agency f name)
 unfolding agency
@@ -243,10 +239,10 @@ unfolding adoption
 adoption_grows f name =
     done_or (not (is_in Formatting space.html name)) _ _ (grows_same f) (done_or (few_nodes f) _ _ (grows_same f) (agency_grows f name))
 
-misnested_at_lem : (q : Found) (f : Full) → Grows f (misnested_at q f).after
+misnested_at_lem : (q : Option ℕ) (f : Full) → Grows f (misnested_at q f).after
 unfolding misnested_at leaves with_stack with_list
-misnested_at_lem Nothing f = grows_same f
-misnested_at_lem (At j) f =
+misnested_at_lem None f = grows_same f
+misnested_at_lem (Some j) f =
     done_or (few_nodes f) _ _ (grows_same f) (let w = agency_grows f tag.a in record { nodes = w.nodes; pieces = w.pieces; pairs = w.pairs })
 
 misnested_grows : (f : Full) → Grows f (misnested f).after
@@ -302,9 +298,8 @@ module _ (f : Full) where
   single_never_given_back s = by (item_at s 0)
     where
       by : (i : Item) → Grows f (on_single i s f).after
-      by (is.Call r next) = never_given_back s r
-      by is.Unknown = grows_same f
-      by is.Bad = grows_same f
+      by (Ok (r, next)) = never_given_back s r
+      by (Err k) = grows_same f
 
 run_grows : (k : ℕ) (s : List ℕ) (i n : ℕ) (f : Full) → Grows f (run_for k s i n f).after
 unfolding run_for on_item unless_refused
@@ -318,9 +313,8 @@ run_grows (suc k) s i n f = by (ltb i (length s)) (item_at s i) (λ next g. run_
 
     item : (j : Item) → ((next : ℕ) (g : Full) → Grows g (run_for k s next (n + 1) g).after)
         → Grows f (on_item j n f (λ (r : Record) (next : ℕ). unless_refused (step s r f) n (run_for k s next (n + 1)))).after
-    item (is.Call r next) more = go next (step s r f) (never_given_back f s r) (more next) (eqb (step s r f).answer 0)
-    item is.Unknown more = grows_same f
-    item is.Bad more = grows_same f
+    item (Ok (r, next)) more = go next (step s r f) (never_given_back f s r) (more next) (eqb (step s r f).answer 0)
+    item (Err k) more = grows_same f
 
     by : (b : Bool) (j : Item) → ((next : ℕ) (g : Full) → Grows g (run_for k s next (n + 1) g).after)
         → Grows f (cond b (on_item j n f (λ (r : Record) (next : ℕ). unless_refused (step s r f) n (run_for k s next (n + 1)))) (ran 0 n f)).after

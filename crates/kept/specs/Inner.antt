@@ -2,15 +2,13 @@
 -- on the stack is lastNode.
 -- Assumes nothing.
 use Rattle.std.proofs.Common.{ℕ, zero, suc, ◌+◌, ◌≤◌, ◌<◌, refl, sym, ◌∙◌, ltb-false, eqb-true, true, false, cond, arith, ltb}
-use Rattle.std.specs.Prelude.{◌≡◌, Bool, length, eqb}
+use Rattle.std.specs.Prelude.{◌≡◌, Bool, length, eqb, None, Option, Some, ℕ}
 use Rattle.std.proofs.Math.Decide.{ℕ_discrete, dec_lt}
 use Rattle.std.proofs.lemmas.Bool.{eqb-false}
 use Rattle.theory.specs.Fn.{at}
 use Rattle.lent.specs.Mem.{NODES, slots}
 use Rattle.places.specs.Places as places
 use Rattle.places.specs.Places.{place_of, last_with, same, never}
-use Rattle.places.specs.declared.Found.{Found}
-use Rattle.places.specs.declared.Found.TheVariants.{At, Nothing}
 use Rattle.places.proofs.Laws.{down_last}
 use Rattle.state.specs.Full.{Full, with_stack}
 use Rattle.standard.specs.Adoption.{Inner, inner_at, gone, left_stack, left_both, renewed_at, turn_at, turned, inner}
@@ -34,7 +32,7 @@ module _ {b : Full} {fe block s : ℕ} (z : 0 < s) (room : b.nodes.used + 4 < sl
         by true = omega arith
         by false = o.mark
 
-    pub turned_listed : InnerSound b fe block s (turn_at (At j) w block i (counter + 1)) i (counter + 1)
+    pub turned_listed : InnerSound b fe block s (turn_at (Some j) w block i (counter + 1)) i (counter + 1)
     unfolding turn_at
     turned_listed = by (ltb 3 (counter + 1)) refl
       where
@@ -47,9 +45,9 @@ module _ {b : Full} {fe block s : ℕ} (z : 0 < s) (room : b.nodes.used + 4 < sl
   unfolding turned turn_at place_of last_with places.at
   turned_sound {w} {i} {counter} l o = by (place_of w.full.list (places.at w.full.stack i)) refl
     where
-      by : (x : Found) → place_of w.full.list (places.at w.full.stack i) ≡ x → InnerSound b fe block s (turn_at x w block i (counter + 1)) i (counter + 1)
-      by Nothing e = left_stack_lem z l o
-      by (At j) e =
+      by : (x : Option ℕ) → place_of w.full.list (places.at w.full.stack i) ≡ x → InnerSound b fe block s (turn_at x w block i (counter + 1)) i (counter + 1)
+      by None e = left_stack_lem z l o
+      by (Some j) e =
           let n = at w.full.stack.held i in
           let g = down_last (same n) never w.full.list.held (length w.full.list.held) j e in
           turned_listed l o j (omega (arith, g.below, o.sound.list.all)) (eqb-true (at w.full.list.held j) n g.has)

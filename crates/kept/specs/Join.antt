@@ -1,6 +1,6 @@
 -- A text node gets one more piece: a sound state stays sound. And what stands directly before a place is a used node, or none.
 -- Assumes nothing.
-use Rattle.std.specs.Prelude.{ℕ, suc, ◌≤◌, ◌<◌, ◌≡◌, ◌≢◌, ◌⊎◌, Bool, List, ◌∷◌, ◌++◌, length, ltb}
+use Rattle.std.specs.Prelude.{ℕ, suc, ◌≤◌, ◌<◌, ◌≡◌, ◌≢◌, ◌⊎◌, Bool, List, ◌∷◌, ◌++◌, length, ltb, Option}
 use Rattle.std.proofs.Common.{refl, sym, ◌∙◌, inl, inr, arith, true, false, cond, eqb, lt-ltb, ne_eqb, eqb-true}
 use Rattle.std.proofs.Math.Path.{fun_ext}
 use Rattle.theory.specs.Fn.{In}
@@ -29,7 +29,7 @@ pub length_piece_after : (p : List ℕ) (e i number : ℕ) → length (piece_aft
 unfolding piece_after piece
 length_piece_after p e i number = simp length_store
 
-module _ {m p q l f t : List ℕ} {c v u d k s foster head : ℕ} {x : Context} (o : Sound m p q l f t c v u d k s foster head x) where
+module _ {m p q l f t : List ℕ} {c v u d k s foster head : ℕ} {x : Option Context} (o : Sound m p q l f t c v u d k s foster head x) where
   -- ---- one more piece
 
   module _ (n : ℕ) (nz : 0 < n) (nc : n ≤ c) (e : field m n KIND ≡ TEXT) (room : suc v < slots PIECES p) (number : ℕ) where

@@ -2,7 +2,7 @@
 -- place, opened, and takes the entry's place in the list.
 -- Assumes nothing.
 use Rattle.std.proofs.Common.{ℕ, zero, suc, ◌+◌, ◌-◌, ◌≤◌, ◌<◌, refl, ◌∙◌, get_or-set_other, false, arith, add-one, ltb, ltb-false}
-use Rattle.std.specs.Prelude.{◌≡◌, ◌≢◌, List, [], ◌∷◌, ◌++◌, length, take, eqb}
+use Rattle.std.specs.Prelude.{◌≡◌, ◌≢◌, List, [], ◌∷◌, ◌++◌, length, take, eqb, None, Option, Some, ℕ}
 use Rattle.std.proofs.lemmas.Bool.{eqb-false}
 use Rattle.theory.specs.Fn as fn
 use Rattle.theory.specs.Natural.{Natural}
@@ -12,8 +12,6 @@ use Rattle.makers.specs.Make.{copied, tag_of}
 use Rattle.arena.proofs.Lengths.{slots_same}
 use Rattle.arena.proofs.Ancestors.{kind_free}
 use Rattle.places.specs.Places.{Places, at, pushed, swapped, last_with, down, never, place_of}
-use Rattle.places.specs.declared.Found.{Found}
-use Rattle.places.specs.declared.Found.TheVariants.{At, Nothing}
 use Rattle.places.proofs.Laws.{down_last}
 use Rattle.state.specs.Full.{Full, with_nodes, with_stack, with_list}
 use Rattle.sound.specs.Sound.{MARKER}
@@ -154,9 +152,9 @@ module _ (f : Full) (s : SoundFull f) where
   unfolding first_lost last_with
   first_le = by (down (is_marker_or_open f.stack) never f.list.held (length f.list.held)) refl
     where
-      by : (o : Found) → down (is_marker_or_open f.stack) never f.list.held (length f.list.held) ≡ o → after o ≤ f.list.size
-      by Nothing e = omega (arith, after_none)
-      by (At i) e = omega (arith, after_at_lem i, (down_last (is_marker_or_open f.stack) never f.list.held (length f.list.held) i e).below, s.list.all)
+      by : (o : Option ℕ) → down (is_marker_or_open f.stack) never f.list.held (length f.list.held) ≡ o → after o ≤ f.list.size
+      by None e = omega (arith, after_none)
+      by (Some i) e = omega (arith, after_at_lem i, (down_last (is_marker_or_open f.stack) never f.list.held (length f.list.held) i e).below, s.list.all)
 
   anew_room_lem : (i k : ℕ) → Lost f i → i + k ≤ f.list.size → Keeps (anew_room f i k)
   unfolding anew_room anew

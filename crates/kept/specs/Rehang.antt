@@ -1,7 +1,7 @@
 -- The adoption agency, 4.15 to 4.17: a copy of an element takes all children of the furthest block, and becomes its only child. A sound
 -- state stays sound, if the order does; and what this is to the ways up is `Wrap`.
 -- Assumes nothing.
-use Rattle.std.specs.Prelude.{ℕ, suc, ◌≤◌, ◌<◌, ◌≡◌, refl, ◌≢◌, ◌⊎◌, List, [], ◌∷◌, ◌++◌, length, take}
+use Rattle.std.specs.Prelude.{ℕ, suc, ◌≤◌, ◌<◌, ◌≡◌, refl, ◌≢◌, ◌⊎◌, List, [], ◌∷◌, ◌++◌, length, take, Option}
 use Rattle.std.proofs.Common.{sym, ◌∙◌, inl, inr, arith}
 use Rattle.std.proofs.Math.Decide.{ℕ_discrete}
 use Rattle.theory.specs.Fn.{Upd, put, put_upd}
@@ -28,7 +28,7 @@ use Rattle.kept.specs.Renew.{copy_made, copy_fields, copy_sound, copy_up}
 abbrev taken : List ℕ → ℕ → ℕ → ℕ → List ℕ
 taken m n fe b = moved (copied m n fe) b n
 
-module _ {m p q l f t : List ℕ} {c v u d k s foster head : ℕ} {x : Context} (o : Sound m p q l f t c v u d k s foster head x)
+module _ {m p q l f t : List ℕ} {c v u d k s foster head : ℕ} {x : Option Context} (o : Sound m p q l f t c v u d k s foster head x)
     (fe : ℕ) (may : Copyable m q u fe) (room : suc c < slots NODES m) (b : ℕ) (bz : 0 < b) (bc : b ≤ c) (bk : field m b KIND ≡ ELEMENT) where
   made : Sound (copied m (suc c) fe) p q l f t (suc c) v u d k s foster head x
   made = copy_sound o fe may room

@@ -1,6 +1,6 @@
 -- An element that is not the root leaves its parent and is put at a place: a sound state stays sound, if the order does.
 -- Assumes nothing.
-use Rattle.std.specs.Prelude.{ℕ, ◌≤◌, ◌<◌, ◌≡◌, refl, ◌≢◌, List, length, take}
+use Rattle.std.specs.Prelude.{ℕ, ◌≤◌, ◌<◌, ◌≡◌, refl, ◌≢◌, List, length, take, Option}
 use Rattle.std.proofs.Common.{◌∙◌, arith}
 use Rattle.theory.specs.Fn.{Upd}
 use Rattle.theory.specs.Natural.{Natural}
@@ -22,7 +22,7 @@ abbrev pub Aside : ℕ → Place → Type 0
 Aside n (End p) = Unit {0}
 Aside n (Before s) = s.0 ≢ n
 
-module _ {m p q l f t : List ℕ} {c v u d k s foster head : ℕ} {x : Context} (o : Sound m p q l f t c v u d k s foster head x)
+module _ {m p q l f t : List ℕ} {c v u d k s foster head : ℕ} {x : Option Context} (o : Sound m p q l f t c v u d k s foster head x)
     (n : ℕ) (nz : 0 < n) (nc : n ≤ c) (ne : field m n KIND ≡ ELEMENT) where
   parent_same : (w : Place) → Aside n w → parent_at (detached m n) w ≡ parent_at m w
   parent_same (End b) a = refl

@@ -2,7 +2,7 @@
 -- and the next element on the stack becomes the child of the copy. A sound state stays sound.
 -- Assumes nothing.
 use Rattle.std.proofs.Common.{ℕ, suc, ◌+◌, ◌≤◌, ◌<◌, sym, ap, ◌∙◌, arith, drop-cons, take_all, add-one, length-set}
-use Rattle.std.specs.Prelude.{◌≡◌, refl, ◌≢◌, List, ◌∷◌, ◌++◌, length, take, drop, set}
+use Rattle.std.specs.Prelude.{◌≡◌, refl, ◌≢◌, List, ◌∷◌, ◌++◌, length, take, drop, set, Option}
 use Rattle.std.proofs.Math.Decide.{ℕ_discrete}
 use Rattle.std.proofs.Math.Seq.{split_at}
 use Rattle.std.proofs.lemmas.List.{set_split}
@@ -37,7 +37,7 @@ use Rattle.kept.specs.Tree.{stack_once}
 
 -- ---- the copy
 
-module _ {m p q l e t : List ℕ} {c v u d k s foster head : ℕ} {x : Context} (o : Sound m p q l e t c v u d k s foster head x)
+module _ {m p q l e t : List ℕ} {c v u d k s foster head : ℕ} {x : Option Context} (o : Sound m p q l e t c v u d k s foster head x)
     (n : ℕ) (may : Copyable m q u n) (room : suc c < slots NODES m) where
   pub copy_made : Made m (make.copied m (suc c) n) (suc c)
   unfolding make.copied

@@ -1,7 +1,7 @@
 -- Links change and nothing else does: a sound state stays sound, if the lists of children and the order are there afterwards, and
 -- the document, the root, contents, text and comments keep what their kinds ask for.
 -- Assumes nothing.
-use Rattle.std.specs.Prelude.{ℕ, ◌≤◌, ◌<◌, ◌≡◌, List, length, take}
+use Rattle.std.specs.Prelude.{ℕ, ◌≤◌, ◌<◌, ◌≡◌, List, length, take, Option}
 use Rattle.std.proofs.Common.{sym, ap, ◌∙◌, arith, lt-ltb, ne_eqb}
 use Rattle.theory.specs.Kids.{hd, lst}
 use Rattle.theory.specs.Natural.{Natural}
@@ -43,7 +43,7 @@ ends_same f g y z h e = (
   g.are.last y z h ∙ ap (λ (r : List ℕ). lst 0 r) e ∙ sym (f.are.last y z h),
 )
 
-pub rewired_sound : {m p q l f t : List ℕ} {c v u d k s foster head : ℕ} {x : Context} → Sound m p q l f t c v u d k s foster head x
+pub rewired_sound : {m p q l f t : List ℕ} {c v u d k s foster head : ℕ} {x : Option Context} → Sound m p q l f t c v u d k s foster head x
     → {m' : List ℕ} → Rewired m m' c → Natural (up m') c (take d l) → Sound m' p q l f t c v u d k s foster head x
 rewired_sound {q = q} {u = u} o w r =
     changed o

@@ -2,7 +2,7 @@
 -- formatting list read few fields, and hold of the new bytes where these fields of the nodes 1 to c are as they were.
 -- `changed` puts a sound state together from that and what is new.
 -- Assumes nothing.
-use Rattle.std.specs.Prelude.{ℕ, ◌+◌, ◌≤◌, ◌<◌, ◌≡◌, refl, ◌≢◌, ◌⊎◌, List, take}
+use Rattle.std.specs.Prelude.{ℕ, ◌+◌, ◌≤◌, ◌<◌, ◌≡◌, refl, ◌≢◌, ◌⊎◌, List, take, Option}
 use Rattle.std.proofs.Common.{sym, ◌∙◌, inl, inr, arith, length-take, get_or-take}
 use Rattle.std.proofs.Math.Decide.{ℕ_discrete, dec_lt}
 use Rattle.theory.specs.Fn.{at}
@@ -208,7 +208,7 @@ pub record Changed (m q l : List ℕ) (c u d : ℕ) (m' p' q' : List ℕ) (c' v'
   pub order : Natural (up m') c' (take d l)
   pub texts : Words m' p' c' v'
 
-module _ {m p q l f t : List ℕ} {c v u d k s foster head : ℕ} {x : Context} (o : Sound m p q l f t c v u d k s foster head x) where
+module _ {m p q l f t : List ℕ} {c v u d k s foster head : ℕ} {x : Option Context} (o : Sound m p q l f t c v u d k s foster head x) where
   -- open elements are used nodes
   pub open_used : (i : ℕ) → i < d → (0 < at l i) × (at l i ≤ c)
   open_used i b =

@@ -1,7 +1,7 @@
 -- What the searches of the adoption agency find: an entry in scope has no element of the scope after it. And that formatting names have
 -- end tags, and none has not.
 -- Assumes nothing.
-use Rattle.std.specs.Prelude.{ℕ, zero, suc, ◌<◌, ◌≡◌, refl, Bool, true, false, cond, List, length, get_or}
+use Rattle.std.specs.Prelude.{ℕ, zero, suc, ◌<◌, ◌≡◌, refl, Bool, true, false, cond, List, length, get_or, None, Option, Some}
 use Rattle.std.proofs.Common.{sym, ◌∙◌, arith, eqb-true}
 use Rattle.std.proofs.Math.Decide.{ℕ_discrete}
 use Rattle.names.specs.Space as space
@@ -10,8 +10,6 @@ use Rattle.names.specs.Numbers.{none, is_name}
 use Rattle.names.specs.Sets.{is_in, Formatting, Special, DefaultScope, default_scope}
 use Rattle.names.proofs.Known.{none_no_name}
 use Rattle.places.specs.Places.{Places, down, same, never, last_with, place_of}
-use Rattle.places.specs.declared.Found.{Found}
-use Rattle.places.specs.declared.Found.TheVariants.{At, Nothing}
 use Rattle.places.proofs.Laws.{never_at, at_at, down_last}
 use Rattle.state.specs.Full.{Full}
 use Rattle.sound.specs.State.{SoundFull}
@@ -26,25 +24,25 @@ use Rattle.kept.specs.Usual.{is_html_lem}
 
 -- ---- the search for a node, and for an entry of the list by its name
 
-pub place_found : (p : Places) (n i : ℕ) → place_of p n ≡ At i → (i < length p.held) × (get_or p.held i 0 ≡ n)
+pub place_found : (p : Places) (n i : ℕ) → place_of p n ≡ Some i → (i < length p.held) × (get_or p.held i 0 ≡ n)
 unfolding place_of last_with
 place_found p n i e =
     let t = down_last (same n) never p.held (length p.held) i e in
     (t.below, eqb-true (get_or p.held i 0) n t.has)
 
-pub entry_found : (m : List ℕ) (p : Places) (name i : ℕ) → entry_of m p name ≡ At i → i < length p.held
+pub entry_found : (m : List ℕ) (p : Places) (name i : ℕ) → entry_of m p name ≡ Some i → i < length p.held
 unfolding entry_of last_with
 entry_found m p name i e = (down_last (named m name) (same MARKER) p.held (length p.held) i e).below
 
 -- ---- the search for an entry in scope
 
-pub down_clear : (hit stop : ℕ → Bool) (h : List ℕ) (k i : ℕ) → down hit stop h k ≡ At i → (j : ℕ) → i < j → j < k → stop (get_or h j 0) ≡ false
+pub down_clear : (hit stop : ℕ → Bool) (h : List ℕ) (k i : ℕ) → down hit stop h k ≡ Some i → (j : ℕ) → i < j → j < k → stop (get_or h j 0) ≡ false
 unfolding down
 down_clear hit stop h zero i e j a b = absurd (omega arith)
 down_clear hit stop h (suc k) i e j a b = by (hit (get_or h k 0)) (stop (get_or h k 0)) refl e (down_clear hit stop h k i)
   where
-    by : (p q : Bool) → stop (get_or h k 0) ≡ q → cond p (At k) (cond q Nothing (down hit stop h k)) ≡ At i
-        → (down hit stop h k ≡ At i → (j : ℕ) → i < j → j < k → stop (get_or h j 0) ≡ false) → stop (get_or h j 0) ≡ false
+    by : (p q : Bool) → stop (get_or h k 0) ≡ q → cond p (Some k) (cond q None (down hit stop h k)) ≡ Some i
+        → (down hit stop h k ≡ Some i → (j : ℕ) → i < j → j < k → stop (get_or h j 0) ≡ false) → stop (get_or h j 0) ≡ false
     by true q s g r = let z : k ≡ i = at_at k i g in absurd (omega arith)
     by false true s g r = absurd (never_at i g)
     by false false s g r = last (ℕ_discrete j k)
@@ -87,9 +85,9 @@ end_tag_none f o = by (down (named m none) (is_of Special m) h (length h)) refl
     h : List ℕ
     h = f.stack.held
 
-    by : (q : Found) → down (named m none) (is_of Special m) h (length h) ≡ q → ended_at q m f.stack none ≡ f.stack
-    by Nothing e = refl
-    by (At i) e =
+    by : (q : Option ℕ) → down (named m none) (is_of Special m) h (length h) ≡ q → ended_at q m f.stack none ≡ f.stack
+    by None e = refl
+    by (Some i) e =
         let t = down_last (named m none) (is_of Special m) h (length h) i e in
         let w = is_html_lem m (get_or h i 0) none t.has in
         let u = open_used o.sound i (omega (arith, t.below, o.stack.all)) in

@@ -1,11 +1,9 @@
 -- The calls that touch places and flags alone keep a sound state sound.
 -- Assumes nothing.
 use Rattle.std.proofs.Common.{ℕ, ◌+◌, ◌-◌, ◌<◌, ◌≤◌, min, refl, ◌∙◌, arith, length, ltb, ltb-true, ltb-false}
-use Rattle.std.specs.Prelude.{◌≡◌, ◌||◌, eqb}
+use Rattle.std.specs.Prelude.{◌≡◌, ◌||◌, eqb, None, Option, Some, ℕ}
 use Rattle.std.proofs.lemmas.Bool.{eqb-false}
 use Rattle.places.specs.Places.{pushed, cut, place_of, last_with, down, same, never}
-use Rattle.places.specs.declared.Found.{Found}
-use Rattle.places.specs.declared.Found.TheVariants.{At, Nothing}
 use Rattle.places.proofs.Laws.{down_last}
 use Rattle.state.specs.Full.{Full, refused, with_stack, with_list}
 use Rattle.sound.specs.State.{SoundFull}
@@ -39,9 +37,9 @@ module _ (f : Full) (s : SoundFull f) where
   unfolding cleared cleared_at place_of last_with
   cleared_sound = by (down (same MARKER) never f.list.held (length f.list.held)) refl
     where
-      by : (x : Found) → down (same MARKER) never f.list.held (length f.list.held) ≡ x → SoundFull (with_list f (cleared_at x f.list))
-      by Nothing e = cut_list 0 (omega arith)
-      by (At i) e = cut_list i (omega (arith, (down_last (same MARKER) never f.list.held (length f.list.held) i e).below, s.list.all))
+      by : (x : Option ℕ) → down (same MARKER) never f.list.held (length f.list.held) ≡ x → SoundFull (with_list f (cleared_at x f.list))
+      by None e = cut_list 0 (omega arith)
+      by (Some i) e = cut_list i (omega (arith, (down_last (same MARKER) never f.list.held (length f.list.held) i e).below, s.list.all))
 
   -- a stack cut past its first entry
   pub cut_stack : (i : ℕ) → 0 < i → i ≤ f.stack.size → SoundFull (with_stack f (cut f.stack i))

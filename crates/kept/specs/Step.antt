@@ -1,14 +1,11 @@
 -- Every call by its number, and so every run, keeps a sound state sound. What the calls rely on holds in a sound state.
 -- Assumes nothing.
-use Rattle.std.specs.Prelude.{ℕ, zero, suc, ◌+◌, ◌-◌, ◌≤◌, ◌<◌, ◌≡◌, ◌⊎◌, Bool, true, false, cond, List, get_or, take, drop, eqb, ltb}
-use Rattle.std.proofs.Common.{sym, ap, ◌∙◌, inl, inr, take-append-drop, get_or-take, length, length-append}
+use Rattle.std.specs.Prelude.{ℕ, zero, suc, ◌+◌, ◌-◌, ◌≤◌, ◌<◌, ◌≡◌, ◌⊎◌, Bool, true, false, cond, List, get_or, eqb, ltb, Option}
+use Rattle.std.proofs.Common.{inl, inr, length, Ok, Err}
 use Rattle.std.proofs.Math.Decide.{ℕ_discrete}
-use Rattle.places.specs.Places.{places_of}
 use Rattle.places.proofs.Laws.{of_whole}
 use Rattle.records.specs.declared.Record.{Record}
-use Rattle.records.specs.declared.Item.{Item}
-use Rattle.records.specs.declared.Item.TheVariants as is
-use Rattle.records.specs.Record.{item_at}
+use Rattle.records.specs.Record.{item_at, Item}
 use Rattle.state.specs.declared.Core.{Core}
 use Rattle.state.specs.declared.Context.{Context}
 use Rattle.state.specs.Full.{Full, Result, full}
@@ -75,9 +72,8 @@ module _ (f : Full) (ok : SoundFull f) where
   single_sound s = by (item_at s 0)
     where
       by : (i : Item) → SoundFull (on_single i s f).after
-      by (is.Call r next) = step_sound s r
-      by is.Unknown = ok
-      by is.Bad = ok
+      by (Ok (r, next)) = step_sound s r
+      by (Err k) = ok
 
 -- ---- runs
 
@@ -93,9 +89,8 @@ run_sound (suc k) s i n f ok = by (ltb i (length s)) (item_at s i) (λ next g go
 
     item : (j : Item) → ((next : ℕ) (g : Full) → SoundFull g → SoundFull (run_for k s next (n + 1) g).after)
         → SoundFull (on_item j n f (λ (r : Record) (next : ℕ). unless_refused (step s r f) n (run_for k s next (n + 1)))).after
-    item (is.Call r next) more = go next (step s r f) (step_sound f ok s r) (more next) (eqb (step s r f).answer 0)
-    item is.Unknown more = ok
-    item is.Bad more = ok
+    item (Ok (r, next)) more = go next (step s r f) (step_sound f ok s r) (more next) (eqb (step s r f).answer 0)
+    item (Err k) more = ok
 
     by : (b : Bool) (j : Item) → ((next : ℕ) (g : Full) → SoundFull g → SoundFull (run_for k s next (n + 1) g).after)
         → SoundFull (cond b (on_item j n f (λ (r : Record) (next : ℕ). unless_refused (step s r f) n (run_for k s next (n + 1)))) (ran 0 n f)).after
@@ -116,24 +111,21 @@ entry_used {l = l} {c} e i b = by (ℕ_discrete (get_or l i 0) MARKER)
     by (yes z) = inr z
     by (no z) = inl ((e.entry i b).used z).1
 
-at_take : (h : List ℕ) (d i : ℕ) → i < d → get_or (take d h) i 0 ≡ get_or h i 0
-at_take h d i b = get_or-take d h i 0 b
+pub sound_ready : (f : Full) → SoundFull f → Ready f
+sound_ready f ok =
+    let t = ok.sound in
+    record {
+      some = t.tree.stack.some;
+      deep = t.places.stack.0;
+      places = rw ok.stack.all ok.places;
+      stack = ok.stack;
+      list = ok.list;
+      modes = ok.modes;
+      pairs = t.sizes.pairs.0;
+      nodes = t.sizes.nodes.0;
+      used = λ i b. (open_inside t i (rw ok.stack.all b)).used;
+      listed = λ i b. entry_used t.entries i (rw ok.list.all b);
+    }
 
-module _ (h n l m p q : List ℕ) (c : Core) (x : Context) (ok : SoundFull (full h c x n l m p q)) where
-  pub sound_ready : Ready h l c
-  unfolding places_of
-  sound_ready =
-      let t = ok.sound in
-      record {
-        some = t.tree.stack.some;
-        deep = t.places.stack.0;
-        places = sym (ap length (take-append-drop c.depth h)) ∙ length-append (take c.depth h) (drop c.depth h) ∙ ok.places;
-        list = of_whole l c.counts.list ok.list;
-        pairs = t.sizes.pairs.0;
-        nodes = t.sizes.nodes.0;
-        used = λ i b. rw (at_take h c.depth i b) at (open_inside t i b).used;
-        listed = λ i b. rw (at_take l c.counts.list i b) at (entry_used t.entries i b);
-      }
-
-  pub sound_modes : c.counts.modes ≤ length m
-  sound_modes = of_whole m c.counts.modes ok.modes
+pub sound_modes : (h n l m p q : List ℕ) (c : Core) (x : Option Context) → SoundFull (full h c x n l m p q) → c.counts.modes ≤ length m
+sound_modes h n l m p q c x ok = of_whole m c.counts.modes ok.modes

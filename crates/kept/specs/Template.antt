@@ -1,6 +1,6 @@
 -- A new HTML `template` and its contents, and the template put at a place: a sound state stays sound.
 -- Assumes nothing.
-use Rattle.std.specs.Prelude.{ℕ, suc, ◌≤◌, ◌<◌, ◌≡◌, refl, ◌≢◌, true, false, List, [], ◌∷◌, ◌++◌, length, take, eqb, ltb}
+use Rattle.std.specs.Prelude.{ℕ, suc, ◌≤◌, ◌<◌, ◌≡◌, refl, ◌≢◌, true, false, List, [], ◌∷◌, ◌++◌, length, take, eqb, ltb, Option}
 use Rattle.std.proofs.Common.{sym, ◌∙◌, arith}
 use Rattle.std.proofs.Math.Decide.{ℕ_discrete}
 use Rattle.names.specs.Space as space
@@ -184,7 +184,7 @@ two_pushed {up} {up'} {c} {b} o h w =
 
 -- ---- a sound state
 
-module _ {m p q l f t : List ℕ} {c v u d k s foster head : ℕ} {x : Context} (o : Sound m p q l f t c v u d k s foster head x)
+module _ {m p q l f t : List ℕ} {c v u d k s foster head : ℕ} {x : Option Context} (o : Sound m p q l f t c v u d k s foster head x)
     (g : Tag) (room : suc (suc c) < slots NODES m) (ok : Allowed q u g) (is : (g.space ≡ space.html) × (g.name ≡ tag.template)) where
   old : Old m (pair_of m (suc c) g) c
   old = record { same = λ n i z h b. pair_others m (suc c) g room n i (omega arith) (omega arith) b }

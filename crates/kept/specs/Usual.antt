@@ -1,7 +1,7 @@
 -- The appropriate place for inserting a node, in a sound state: its parent is a used node that may have children, and is not the
 -- document. All cases of foster parenting.
 -- Assumes nothing.
-use Rattle.std.specs.Prelude.{ℕ, ◌-◌, ◌≤◌, ◌<◌, ◌≡◌, ◌≢◌, Bool, cond, ◌&&◌, ◌||◌, List, [], ◌∷◌, length, get_or}
+use Rattle.std.specs.Prelude.{ℕ, ◌-◌, ◌≤◌, ◌<◌, ◌≡◌, ◌≢◌, Bool, cond, ◌&&◌, ◌||◌, List, [], ◌∷◌, length, get_or, None, Option, Some}
 use Rattle.std.proofs.Common.{refl, ap, ◌∙◌, inl, eqb-true, true, false, arith, eqb}
 use Rattle.std.proofs.lemmas.Bool.{eqb-false}
 use Rattle.names.specs.Space as space
@@ -11,8 +11,6 @@ use Rattle.theory.specs.Kids.{hd, run_in}
 use Rattle.lent.specs.Mem.{field, KIND, PARENT, FIRST, TIE, SPACE, NAME, DOCUMENT, ELEMENT}
 use Rattle.lent.specs.Tree as tree
 use Rattle.places.specs.Places.{at, last_with, down, never}
-use Rattle.places.specs.declared.Found.{Found}
-use Rattle.places.specs.declared.Found.TheVariants.{At, Nothing}
 use Rattle.places.proofs.Laws.{down_last}
 use Rattle.state.specs.Full.{Full}
 use Rattle.state.specs.declared.Context.{Context}
@@ -55,7 +53,7 @@ or_true : (a b : Bool) → (a || b) ≡ true → a ≡ false → b ≡ true
 or_true true b e f = cc
 or_true false b e f = e
 
-module _ {m p q l f t : List ℕ} {c v u d k s foster head : ℕ} {x : Context} (o : Sound m p q l f t c v u d k s foster head x) where
+module _ {m p q l f t : List ℕ} {c v u d k s foster head : ℕ} {x : Option Context} (o : Sound m p q l f t c v u d k s foster head x) where
   pub open_inside : (i : ℕ) → i < d → Inside m c (get_or l i 0)
   open_inside i h = let g = open_used o i h in record { some = g.0; used = g.1; kind = o.tree.stack.elements i h }
 
@@ -162,10 +160,10 @@ module _ (f : Full) (j : ℕ) (stops : (k : ℕ) → k < length f.stack.held →
   unfolding foster_place foster_at last_with at
   at_foster = by (down (is_foster_stop f.nodes.mem) never f.stack.held (length f.stack.held)) refl
     where
-      by : (r : Found) → down (is_foster_stop f.nodes.mem) never f.stack.held (length f.stack.held) ≡ r
+      by : (r : Option ℕ) → down (is_foster_stop f.nodes.mem) never f.stack.held (length f.stack.held) ≡ r
           → P (foster_at r f.nodes.mem f.stack)
-      by Nothing e = ends 0 some
-      by (At i) e =
+      by None e = ends 0 some
+      by (Some i) e =
           let t = down_last (is_foster_stop f.nodes.mem) never f.stack.held (length f.stack.held) i e in
           after_stop i (stops i t.below t.has) t.has
 

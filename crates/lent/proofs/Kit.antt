@@ -58,6 +58,10 @@ pub store_out : (r : Region) (m : List ℕ) (n f v : ℕ) → inside r m n ≡ f
 unfolding store
 store_out r m n f v h = rw h
 
+-- a field of a slot that lies in the lent bytes, whatever the width
+pub fits : (l n w f m : ℕ) → f < w → n < min (l / (w * 2)) m → (n * w + f) * 2 + 1 < l
+fits l n w f m h k = grind arith
+
 -- the same, from the test that the code makes: k is how many slots there are
 module _ (r : Region) (m : List ℕ) (n f : ℕ) {k : ℕ} (e : k ≡ min (length m / (width r * 2)) (most r)) where
   below : n < k → inside r m n ≡ true

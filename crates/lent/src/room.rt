@@ -1,35 +1,39 @@
 // How much of what is lent is still free, and the number that comes next.
-ghost use Rattle.std.specs.Prelude.{◌≡◌, ◌-◌};
+ghost use Rattle.std.specs.Prelude.{◌≡◌};
 ghost use Rattle.lent.specs.Room.{free_nodes, free_pieces, free_pairs, fresh};
 
-use crate::{Node, Pair, Piece};
+use crate::{Node, Pair, Piece, slots};
 
-// What is left of all when some are used.
-fn rest(all: usize, used: usize) -> usize
-    ensures { result ≡ all - used }
-{
-    if used < all { all - used } else { 0 }
-}
-
+/// How many nodes are free when the first `used` are used. Slot 0 is none.
+#[tactic(auto, unfolding(crate::specs::Room::free_nodes, crate::specs::Mem::slots))]
 pub fn free_nodes(mem: &[u8], used: usize) -> usize
     ensures { result ≡ free_nodes mem.now used }
 {
-    rest(rest(crate::least(mem.len() / 32, Node::MOST + 1), 1), used)
+    slots::<{ Node::FIELDS }, { Node::SLOTS }>(mem)
+        .saturating_sub(1)
+        .saturating_sub(used)
 }
 
+/// How many text pieces are free when the first `used` are used. Slot 0 is none.
+#[tactic(auto, unfolding(crate::specs::Room::free_pieces, crate::specs::Mem::slots))]
 pub fn free_pieces(mem: &[u8], used: usize) -> usize
     ensures { result ≡ free_pieces mem.now used }
 {
-    rest(rest(crate::least(mem.len() / 4, Piece::MOST + 1), 1), used)
+    slots::<{ Piece::FIELDS }, { Piece::SLOTS }>(mem)
+        .saturating_sub(1)
+        .saturating_sub(used)
 }
 
+/// How many attribute pairs are free when the first `used` are used.
+#[tactic(auto, unfolding(crate::specs::Room::free_pairs, crate::specs::Mem::slots))]
 pub fn free_pairs(mem: &[u8], used: usize) -> usize
     ensures { result ≡ free_pairs mem.now used }
 {
-    rest(crate::least(mem.len() / 4, Pair::MOST), used)
+    slots::<{ Pair::FIELDS }, { Pair::MOST }>(mem).saturating_sub(used)
 }
 
-// The lowest free number of a node or a piece, when the first ones are used.
+/// The lowest free number of a node or a piece, when the first `used` are used: 0 where no number is left.
+#[tactic(auto, unfolding(crate::specs::Room::fresh))]
 pub fn next(used: usize) -> u16
     ensures { result ≡ fresh used }
 {

@@ -1,15 +1,18 @@
 // The appropriate place for inserting a node (13.2.6.1), and what is done there.
-ghost use Rattle.std.specs.Prelude.{◌≡◌, ◌<◌, ◌≤◌, length};
-ghost use Rattle.places.specs.Places.{places_of, last_with, never};
+ghost use Rattle.std.specs.Prelude.{◌≡◌, ◌<◌};
+ghost use Rattle.places.specs.Places.{Whole, last_with, never};
+ghost use Rattle.state.specs.Builder.{full_of};
 ghost use Rattle.standard.specs.Place.{end_of, before_table, table_place, template_or_table, is_foster_stop, foster_place, appropriate_place, attached, sibling_before, text_before};
+ghost use Rattle.standard.specs.Insertion.{usual_place};
 
 use crate::html;
 use lent::{Kind, Node};
 use names::tag;
-use places::Found;
 use standard::Place;
+use state::builder::Builder;
 
 // Inside a template means inside its contents.
+#[tactic(auto, unfolding(standard::specs::Place::end_of))]
 fn end_of(nodes: &[u8], n: Node) -> Place
     ensures { result ≡ end_of nodes.now n.0 }
 {
@@ -19,6 +22,7 @@ fn end_of(nodes: &[u8], n: Node) -> Place
     Place::End(n)
 }
 
+#[tactic(auto, unfolding(standard::specs::Place::before_table))]
 fn before_table(nodes: &[u8], t: Node) -> Place
     ensures { result ≡ before_table nodes.now t.0 }
 {
@@ -30,85 +34,92 @@ fn before_table(nodes: &[u8], t: Node) -> Place
 }
 
 // Entry i of the stack is the last table.
-fn table_place(nodes: &[u8], h: &[u16], depth: usize, i: usize) -> Place
-    requires { (i < depth) × (depth ≤ length h.now) }
-    ensures { result ≡ table_place nodes.now (places_of h.now depth) i }
+fn table_place(b: &Builder<'_>, i: usize) -> Place
+    requires open { i < (full_of b.now).stack.size }
+    requires whole { Whole (full_of b.now).stack }
+    ensures { result ≡ table_place (full_of b.now).nodes.mem (full_of b.now).stack i }
 {
-    let t = h[i];
-    if lent::get(nodes, Node(t), Node::PARENT) == Node::NONE {
-        let up = places::previous(i);
-        return end_of(nodes, Node(h[up]));
+    let t = b.stack[i];
+    if lent::get(b.nodes, Node(t), Node::PARENT) == Node::NONE {
+        let up = i.saturating_sub(1);
+        return end_of(b.nodes, Node(b.stack[up]));
     }
-    before_table(nodes, Node(t))
+    before_table(b.nodes, Node(t))
 }
 
 // Entry i of the stack is the last template or table.
-fn template_or_table(nodes: &[u8], h: &[u16], depth: usize, i: usize) -> Place
-    requires { (i < depth) × (depth ≤ length h.now) }
-    ensures { result ≡ template_or_table nodes.now (places_of h.now depth) i }
+fn template_or_table(b: &Builder<'_>, i: usize) -> Place
+    requires open { i < (full_of b.now).stack.size }
+    requires whole { Whole (full_of b.now).stack }
+    ensures { result ≡ template_or_table (full_of b.now).nodes.mem (full_of b.now).stack i }
 {
-    let n = h[i];
-    if html::is_html(nodes, Node(n), tag::TEMPLATE) {
-        return end_of(nodes, Node(n));
+    let n = b.stack[i];
+    if html::is_html(b.nodes, Node(n), tag::TEMPLATE) {
+        return end_of(b.nodes, Node(n));
     }
-    table_place(nodes, h, depth, i)
+    table_place(b, i)
 }
 
+#[tactic(auto, unfolding(standard::specs::Place::is_foster_stop))]
 fn is_foster_stop(nodes: &[u8], n: Node) -> bool
     ensures { result ≡ is_foster_stop nodes.now n.0 }
 {
-    if html::is_html(nodes, n, tag::TEMPLATE) {
-        return true;
-    }
-    html::is_html(nodes, n, tag::TABLE)
+    html::is_html(nodes, n, tag::TEMPLATE) || html::is_html(nodes, n, tag::TABLE)
 }
 
 // The last template or table of the stack.
-fn foster_stop(nodes: &[u8], h: &[u16], depth: usize) -> Found
-    requires { depth ≤ length h.now }
-    ensures { result ≡ last_with (is_foster_stop nodes.now) never (places_of h.now depth) }
+#[tactic(auto, unfolding(places::specs::Places::last_with))]
+fn foster_stop(b: &Builder<'_>) -> Option<usize>
+    requires { Whole (full_of b.now).stack }
+    ensures { result ≡ last_with (is_foster_stop (full_of b.now).nodes.mem) never (full_of b.now).stack }
 {
-    let mut k = depth;
-    while 0 < k {
-        k -= 1;
-        if is_foster_stop(nodes, Node(h[k])) {
-            return Found::At(k);
-        }
-    }
-    Found::Nothing
+    places::last_with(
+        &b.stack[..b.core.depth],
+        |n| is_foster_stop(b.nodes, Node(n)),
+        |_| false,
+    )
 }
 
-fn foster_place(nodes: &[u8], h: &[u16], depth: usize) -> Place
-    requires { (0 < depth) × (depth ≤ length h.now) }
-    ensures { result ≡ foster_place nodes.now (places_of h.now depth) }
+#[tactic(auto, unfolding(standard::specs::Place::foster_place, standard::specs::Place::foster_at))]
+fn foster_place(b: &Builder<'_>) -> Place
+    requires some { 0 < (full_of b.now).stack.size }
+    requires whole { Whole (full_of b.now).stack }
+    ensures { result ≡ foster_place (full_of b.now).nodes.mem (full_of b.now).stack }
 {
-    match foster_stop(nodes, h, depth) {
-        Found::At(i) => template_or_table(nodes, h, depth, i),
-        Found::Nothing => end_of(nodes, Node(h[0])),
+    match foster_stop(b) {
+        Some(i) => template_or_table(b, i),
+        None => end_of(b.nodes, Node(b.stack[0])),
     }
 }
 
-#[tactic(auto, using(crate::proofs::Laws::place_off, crate::proofs::Laws::place_fostered, crate::proofs::Laws::place_usual))]
-pub fn appropriate_place_for_insertion(
-    nodes: &[u8],
-    h: &[u16],
-    depth: usize,
-    foster: usize,
-    target: Node,
-) -> Place
-    requires { (0 < depth) × (depth ≤ length h.now) }
-    ensures { result ≡ appropriate_place nodes.now (places_of h.now depth) foster target.0 }
+/// The appropriate place for inserting a node, with `target` as the override target: 13.2.6.1, steps 2 and 3.
+#[tactic(auto, unfolding(standard::specs::Place::appropriate_place))]
+pub fn appropriate_place_for_insertion(b: &Builder<'_>, target: Node) -> Place
+    requires some { 0 < (full_of b.now).stack.size }
+    requires whole { Whole (full_of b.now).stack }
+    ensures { result ≡ appropriate_place (full_of b.now).nodes.mem (full_of b.now).stack (full_of b.now).flags.foster target.0 }
 {
-    if foster != 1 {
-        return end_of(nodes, target);
+    if b.core.flags.foster != 1 {
+        return end_of(b.nodes, target);
     }
-    if html::is_foster_target(nodes, target) {
-        return foster_place(nodes, h, depth);
+    if html::is_foster_target(b.nodes, target) {
+        return foster_place(b);
     }
-    end_of(nodes, target)
+    end_of(b.nodes, target)
 }
 
-// n, which has no parent, is put there.
+/// The appropriate place with the current node as the target: what a call without a target of its own takes.
+#[tactic(auto, using(crate::proofs::Laws::usual_is))]
+pub fn usual_place(b: &Builder<'_>) -> Place
+    requires some { 0 < (full_of b.now).stack.size }
+    requires whole { Whole (full_of b.now).stack }
+    ensures { result ≡ usual_place (full_of b.now) }
+{
+    appropriate_place_for_insertion(b, Node(b.stack[b.core.depth - 1]))
+}
+
+/// n, which has no parent, is put there.
+#[tactic(auto, unfolding(standard::specs::Place::attached))]
 pub fn attach(nodes: &mut [u8], p: Place, n: Node)
     ensures { nodes.new ≡ attached nodes.old p n.0 }
 {
@@ -118,6 +129,7 @@ pub fn attach(nodes: &mut [u8], p: Place, n: Node)
     }
 }
 
+#[tactic(auto, unfolding(standard::specs::Place::sibling_before))]
 fn sibling_before(nodes: &[u8], p: Place) -> u16
     ensures { result ≡ sibling_before nodes.now p }
 {
@@ -127,7 +139,8 @@ fn sibling_before(nodes: &[u8], p: Place) -> u16
     }
 }
 
-// The text node directly before the place, 0 if there is none.
+/// The text node directly before the place, 0 if there is none.
+#[tactic(auto, unfolding(standard::specs::Place::text_before))]
 pub fn text_before(nodes: &[u8], p: Place) -> u16
     ensures { result ≡ text_before nodes.now p }
 {

@@ -1,8 +1,9 @@
 -- Laws of the lookup. From the table's order: the bytes of a name give its number, and a number that is given has the bytes.
 -- And the lookup as a scan of the rows from a number on.
 -- Assumes nothing.
-use Rattle.std.proofs.Common.{◌≡◌, refl, sym, ◌∙◌, ap, ◌⊎◌, inl, inr, Bool, true, false, ◌&&◌, List, [], ◌∷◌, ℕ, zero, suc, ◌+◌, ◌≤◌, ◌<◌, zero-le, suc-le-suc, add-zero, add-suc, suc-add, le_of_suc-le-suc, not-suc-le-zero, arith, eqb, leb, length, get_or, drop, drop_of_length-le, drop-cons, eqb-true, eq-eqb, ne_eqb, leb-true, leb-false}
+use Rattle.std.proofs.Common.{◌≡◌, refl, sym, ◌∙◌, ap, ◌⊎◌, inl, inr, Bool, true, false, ◌&&◌, List, [], ◌∷◌, ℕ, zero, suc, ◌+◌, ◌≤◌, ◌<◌, zero-le, suc-le-suc, add-zero, add-suc, suc-add, le_of_suc-le-suc, not-suc-le-zero, arith, eqb, length, get_or, drop, drop_of_length-le, drop-cons, eqb-true, eq-eqb}
 use Rattle.std.proofs.Math.Bool.{false≢true}
+use Rattle.std.specs.Cmp.Lexicographic.{pointwise}
 use Rattle.names.specs.Text.{same}
 use Rattle.names.specs.Table.{names, limit}
 use Rattle.names.specs.Numbers.{rows, bytes_of, place, number_of}
@@ -27,6 +28,13 @@ same_yes (x ∷ xs) (y ∷ ys) e = go (same_yes xs ys) (eqb x y) refl e
 pub same_refl : (a : List ℕ) → same a a ≡ true
 same_refl [] = refl
 same_refl (x ∷ xs) = rw (eq-eqb x x refl, same_refl xs)
+
+-- the test is that of `==`
+pub same_pointwise : (a b : List ℕ) → same a b ≡ pointwise eqb a b
+same_pointwise [] [] = refl
+same_pointwise [] (y ∷ ys) = refl
+same_pointwise (x ∷ xs) [] = refl
+same_pointwise (x ∷ xs) (y ∷ ys) = ap (λ (t : Bool). eqb x y && t) (same_pointwise xs ys)
 
 differs : (a b : List ℕ) → (b ≡ a → ⊥) → same a b ≡ false
 differs a b h = go (same a b) refl
@@ -102,22 +110,3 @@ module _ (b : List ℕ) (n : ℕ) where
 
   pub scan_past : limit ≤ n → place b n (drop n rows) ≡ 0
   scan_past h = rw (drop_of_length-le rows {i = n} (omega (arith, names_length)))
-
--- one string from place i on beside another: both have a byte there, or one of them has ended
-module _ (a b : List ℕ) (i : ℕ) where
-  module _ (h : i < length a) (l : i < length b) where
-    pub bytes_differ : (get_or a i 0 ≡ get_or b i 0 → ⊥) → same (drop i a) (drop i b) ≡ false
-    bytes_differ e = rw (drop-cons a i 0 h, drop-cons b i 0 l, ne_eqb (get_or a i 0) (get_or b i 0) e)
-
-    pub bytes_equal : get_or a i 0 ≡ get_or b i 0 → same (drop i a) (drop i b) ≡ same (drop (suc i) a) (drop (suc i) b)
-    bytes_equal e = rw (drop-cons a i 0 h, drop-cons b i 0 l, eq-eqb (get_or a i 0) (get_or b i 0) e)
-
-  pub ended_right : i < length a → length b ≤ i → same (drop i a) (drop i b) ≡ false
-  ended_right h l = rw (drop-cons a i 0 h, drop_of_length-le b l)
-
-  pub ended_left : length a ≤ i → same (drop i a) (drop i b) ≡ leb (length b) i
-  ended_left h = rw (drop_of_length-le a h) (go (leb (length b) i) refl)
-    where
-      go : (t : Bool) → leb (length b) i ≡ t → same [] (drop i b) ≡ t
-      go true e = rw (drop_of_length-le b (leb-true (length b) i e))
-      go false e = rw (drop-cons b i 0 (leb-false (length b) i e))

@@ -2,6 +2,7 @@ pub mod Flat
 pub mod Numbers
 pub mod Order
 pub mod Put
+pub mod Set
 pub mod Sets
 pub mod Space
 pub mod Table

@@ -1,103 +1,76 @@
 // The sets of names, by namespace and name.
 ghost use Rattle.std.specs.Prelude.{◌≡◌};
-ghost use Rattle.names.specs.Sets.{is_in, is_html_point, Formatting, Special, DefaultScope, ListItemScope, ButtonScope, TableScope, Cursory, Thorough, FosterTargets, MathTextPoints, SvgPoints};
+ghost use Rattle.names.specs.Sets.{is_in, is_html_point, Formatting, Special, DefaultScope, ListItemScope, ButtonScope, TableScope, Cursory, Thorough, FosterTargets, MathTextPoints};
 ghost use Rattle.names.specs.Words.{in_words};
 
 use crate::{Namespace, tag, words};
 
 // Whether the words have the bit of the name.
-fn has(ws: &[u64; words::ALL], ns: u16, n: u16) -> bool
-    ensures { result ≡ in_words ws.now ns n }
+fn in_words(ws: &[u64; words::ALL], space: u16, name: u16) -> bool
+    ensures { result ≡ in_words ws.now space name }
 {
-    if Namespace::LIMIT <= ns {
-        return false;
+    let i = usize::from(space) * words::EACH + usize::from(name / 64);
+    space < Namespace::LIMIT && name < words::SPAN && (ws[i] >> (name % 64)) % 2 == 1
+}
+
+/// A set of names that the rules speak of, each with its section of the standard.
+#[derive(Clone, Copy, Debug, PartialEq, Eq)]
+pub enum Set {
+    /// The formatting elements, 13.2.4.2.
+    Formatting,
+    /// The special elements, 13.2.4.2.
+    Special,
+    /// What ends a walk for the default scope, 13.2.4.2.
+    DefaultScope,
+    /// The same for list item scope.
+    ListItemScope,
+    /// The same for button scope.
+    ButtonScope,
+    /// The same for table scope.
+    TableScope,
+    /// The elements whose end tags are implied, 13.2.6.3.
+    Cursory,
+    /// Those whose end tags are implied thoroughly, 13.2.6.3.
+    Thorough,
+    /// The targets that foster parenting, where it is on, moves a node away from, 13.2.6.1.
+    FosterTargets,
+    /// The MathML text integration points, 13.2.6.
+    MathTextPoints,
+    /// The SVG elements that are HTML integration points, 13.2.6.
+    SvgPoints,
+}
+
+impl Set {
+    ghost use Rattle.names.specs.Set.{names_of};
+
+    /// Whether the set has the name in the namespace. No set has 0, a name of the host's or a number that is no name,
+    /// and none has a name in a number that is no namespace.
+    // A constant is laid down anew wherever it is used, so each set's words are used in its arm alone and lent.
+    pub fn has(self, space: u16, name: u16) -> bool
+        ensures { result ≡ is_in (names_of self) space name }
+    {
+        match self {
+            Set::Formatting => in_words(&words::FORMATTING, space, name),
+            Set::Special => in_words(&words::SPECIAL, space, name),
+            Set::DefaultScope => in_words(&words::DEFAULT_SCOPE, space, name),
+            Set::ListItemScope => in_words(&words::LIST_ITEM_SCOPE, space, name),
+            Set::ButtonScope => in_words(&words::BUTTON_SCOPE, space, name),
+            Set::TableScope => in_words(&words::TABLE_SCOPE, space, name),
+            Set::Cursory => in_words(&words::CURSORY, space, name),
+            Set::Thorough => in_words(&words::THOROUGH, space, name),
+            Set::FosterTargets => in_words(&words::FOSTER_TARGETS, space, name),
+            Set::MathTextPoints => in_words(&words::MATH_TEXT_POINTS, space, name),
+            Set::SvgPoints => in_words(&words::SVG_POINTS, space, name),
+        }
     }
-    if words::SPAN <= n {
-        return false;
-    }
-    let i = crate::wide(ns) * words::EACH + crate::wide(n / 64);
-    (ws[i] >> (n % 64)) % 2 == 1
 }
 
-pub fn is_formatting(ns: u16, n: u16) -> bool
-    ensures { result ≡ is_in Formatting ns n }
+/// Whether an element is an HTML integration point, 13.2.6: an SVG one of the set, or a MathML annotation-xml with the mark 1,
+/// which says that its encoding makes it such a point.
+#[tactic(auto, unfolding(crate::specs::Sets::is_html_point))]
+pub fn is_html_integration_point(space: u16, name: u16, mark: u16) -> bool
+    ensures { result ≡ is_html_point space name mark }
 {
-    has(&words::FORMATTING, ns, n)
-}
-
-pub fn is_special(ns: u16, n: u16) -> bool
-    ensures { result ≡ is_in Special ns n }
-{
-    has(&words::SPECIAL, ns, n)
-}
-
-pub fn in_default_scope(ns: u16, n: u16) -> bool
-    ensures { result ≡ is_in DefaultScope ns n }
-{
-    has(&words::DEFAULT_SCOPE, ns, n)
-}
-
-pub fn in_list_item_scope(ns: u16, n: u16) -> bool
-    ensures { result ≡ is_in ListItemScope ns n }
-{
-    has(&words::LIST_ITEM_SCOPE, ns, n)
-}
-
-pub fn in_button_scope(ns: u16, n: u16) -> bool
-    ensures { result ≡ is_in ButtonScope ns n }
-{
-    has(&words::BUTTON_SCOPE, ns, n)
-}
-
-pub fn in_table_scope(ns: u16, n: u16) -> bool
-    ensures { result ≡ is_in TableScope ns n }
-{
-    has(&words::TABLE_SCOPE, ns, n)
-}
-
-pub fn is_cursory(ns: u16, n: u16) -> bool
-    ensures { result ≡ is_in Cursory ns n }
-{
-    has(&words::CURSORY, ns, n)
-}
-
-pub fn is_thorough(ns: u16, n: u16) -> bool
-    ensures { result ≡ is_in Thorough ns n }
-{
-    has(&words::THOROUGH, ns, n)
-}
-
-// Whether foster parenting, where it is on, moves a node away from such a target.
-pub fn is_foster_target(ns: u16, n: u16) -> bool
-    ensures { result ≡ is_in FosterTargets ns n }
-{
-    has(&words::FOSTER_TARGETS, ns, n)
-}
-
-pub fn is_mathml_text_integration_point(ns: u16, n: u16) -> bool
-    ensures { result ≡ is_in MathTextPoints ns n }
-{
-    has(&words::MATH_TEXT_POINTS, ns, n)
-}
-
-fn is_svg_point(ns: u16, n: u16) -> bool
-    ensures { result ≡ is_in SvgPoints ns n }
-{
-    has(&words::SVG_POINTS, ns, n)
-}
-
-// The mark is 1 on an annotation-xml whose encoding makes it such a point.
-pub fn is_html_integration_point(ns: u16, n: u16, mark: u16) -> bool
-    ensures { result ≡ is_html_point ns n mark }
-{
-    if is_svg_point(ns, n) {
-        return true;
-    }
-    if ns != Namespace::MATHML {
-        return false;
-    }
-    if n != tag::ANNOTATION_XML {
-        return false;
-    }
-    mark == 1
+    Set::SvgPoints.has(space, name)
+        || (space == Namespace::MATHML && name == tag::ANNOTATION_XML && mark == 1)
 }

@@ -1,41 +1,33 @@
 -- The search for the first entry that is wanted, as a loop makes it: what was found so far, or else the first of the entries that are left.
 -- And what it finds.
 -- Assumes nothing.
-use Rattle.std.proofs.Common.{ℕ, suc, ◌+◌, ◌-◌, ◌≤◌, ◌<◌, ◌≡◌, refl, ap, sym, ◌∙◌, Bool, true, false, cond, List, [], ◌∷◌, add-one, arith, length, get_or, take, drop, length-drop, drop_of_length-le, drop-cons, get_or-drop, get_or-take, length-take-le}
-use Rattle.places.specs.declared.Found.{Found}
-use Rattle.places.specs.declared.Found.TheVariants.{At, Nothing}
+use Rattle.std.proofs.Common.{ℕ, suc, ◌+◌, ◌-◌, ◌≤◌, ◌<◌, ◌≡◌, refl, ap, sym, ◌∙◌, Bool, true, false, cond, List, [], ◌∷◌, add-one, arith, length, get_or, take, drop, length-drop, drop_of_length-le, drop-cons, get_or-drop, get_or-take, length-take-le, None, Option, Some}
 use Rattle.places.specs.Places.{first_of, first_with}
 use Rattle.places.proofs.Laws.{never_at, at_at}
 
 -- ---- one entry, by what a test says of it
 
-pub one_at : {b : Bool} (i : ℕ) {B : Bool} → b ≡ B → b ≡ true → At i ≡ cond B (At i) Nothing
-one_at i eb e = rw (← eb, e)
-
-pub one_none : {b : Bool} (i : ℕ) {B : Bool} → b ≡ B → b ≡ false → Nothing ≡ cond B (At i) Nothing
-one_none i eb e = rw (← eb, e)
-
 -- ---- the steps of a loop over the first `size` entries of l: those from i on are left
 
-first_empty : (p : ℕ → Bool) (k : ℕ) → first_with p [] k ≡ Nothing
+first_empty : (p : ℕ → Bool) (k : ℕ) → first_with p [] k ≡ None
 unfolding first_with
 first_empty p k = refl
 
-first_cons : (p : ℕ → Bool) (x : ℕ) (xs : List ℕ) (k : ℕ) → first_with p (x ∷ xs) k ≡ cond (p x) (At k) (first_with p xs (k + 1))
+first_cons : (p : ℕ → Bool) (x : ℕ) (xs : List ℕ) (k : ℕ) → first_with p (x ∷ xs) k ≡ cond (p x) (Some k) (first_with p xs (k + 1))
 unfolding first_with
 first_cons p x xs k = refl
 
 -- what was found goes before the entry k, and that before the ones after it
-found_one : (b : Bool) (k : ℕ) (f r : Found) → first_of f (cond b (At k) r) ≡ first_of (first_of f (cond b (At k) Nothing)) r
+found_one : (b : Bool) (k : ℕ) (f r : Option ℕ) → first_of f (cond b (Some k) r) ≡ first_of (first_of f (cond b (Some k) None)) r
 unfolding first_of
-found_one b k (At i) r = refl
-found_one true k Nothing r = refl
-found_one false k Nothing r = refl
+found_one b k (Some i) r = refl
+found_one true k None r = refl
+found_one false k None r = refl
 
-found_all : (f : Found) → first_of f Nothing ≡ f
+found_all : (f : Option ℕ) → first_of f None ≡ f
 unfolding first_of
-found_all (At i) = refl
-found_all Nothing = refl
+found_all (Some i) = refl
+found_all None = refl
 
 module _ (l : List ℕ) (size i : ℕ) (le : size ≤ length l) where
   pub rest_none : size ≤ i → drop i (take size l) ≡ []
@@ -44,19 +36,21 @@ module _ (l : List ℕ) (size i : ℕ) (le : size ≤ length l) where
   pub rest_cons : i < size → drop i (take size l) ≡ get_or l i 0 ∷ drop (i + 1) (take size l)
   rest_cons h = drop-cons (take size l) i 0 (omega (arith, length-take-le size l le)) ∙ rw (get_or-take size l i 0 h, add-one)
 
-module _ (l : List ℕ) (size i : ℕ) (p : ℕ → Bool) (f : Found) {whole : Found} (inv : whole ≡ first_of f (first_with p (drop i (take size l)) i)) (le : size ≤ length l) where
-  pub first_turn : {here next : Found} → i < size → here ≡ cond (p (get_or l i 0)) (At i) Nothing → next ≡ first_of f here
+module _ (l : List ℕ) (size i : ℕ) (p : ℕ → Bool) (f : Option ℕ) {whole : Option ℕ} (inv : whole ≡ first_of f (first_with p (drop i (take size l)) i)) (le : size ≤ length l) where
+  pub first_turn : {here next : Option ℕ} → i < size → here ≡ cond (p (get_or l i 0)) (Some i) None → next ≡ first_of f here
       → whole ≡ first_of next (first_with p (drop (i + 1) (take size l)) (i + 1))
   first_turn h eh en =
       let rest = drop (i + 1) (take size l) in
       inv
       ∙ ap (first_of f) (ap (λ (xs : List ℕ). first_with p xs i) (rest_cons l size i le h) ∙ first_cons p (get_or l i 0) rest i)
       ∙ found_one (p (get_or l i 0)) i f (first_with p rest (i + 1))
-      ∙ ap (λ (o : Found). first_of o (first_with p rest (i + 1))) (sym (en ∙ ap (first_of f) eh))
+      ∙ ap (λ (o : Option ℕ). first_of o (first_with p rest (i + 1))) (sym (en ∙ ap (first_of f) eh))
 
   pub first_end : size ≤ i → f ≡ whole
   first_end h =
       sym (inv ∙ ap (first_of f) (ap (λ (xs : List ℕ). first_with p xs i) (rest_none l size i le h) ∙ first_empty p i) ∙ found_all f)
+
+-- ---- a step of the search among all entries: those from k on are left
 
 -- ---- what is found
 
@@ -72,11 +66,11 @@ record Met (p : ℕ → Bool) (xs : List ℕ) (k b : ℕ) : Type 0 where
   below : b < k + length xs
   has : p (get_or xs (b - k) 0) ≡ true
 
-met : (p : ℕ → Bool) (xs : List ℕ) (k b : ℕ) → first_with p xs k ≡ At b → Met p xs k b
+met : (p : ℕ → Bool) (xs : List ℕ) (k b : ℕ) → first_with p xs k ≡ Some b → Met p xs k b
 met p [] k b e = absurd (never_at b (sym (first_empty p k) ∙ e))
 met p (x ∷ xs) k b e = by (p x) refl (sym (first_cons p x xs k) ∙ e) (met p xs (k + 1) b)
   where
-    by : (o : Bool) → p x ≡ o → cond o (At k) (first_with p xs (k + 1)) ≡ At b → (first_with p xs (k + 1) ≡ At b → Met p xs (k + 1) b) → Met p (x ∷ xs) k b
+    by : (o : Bool) → p x ≡ o → cond o (Some k) (first_with p xs (k + 1)) ≡ Some b → (first_with p xs (k + 1) ≡ Some b → Met p xs (k + 1) b) → Met p (x ∷ xs) k b
     by true h g r =
         let z : k ≡ b = at_at k b g in
         let n : b - k ≡ 0 = omega arith in
@@ -86,7 +80,7 @@ met p (x ∷ xs) k b e = by (p x) refl (sym (first_cons p x xs k) ∙ e) (met p 
         let n : b - k ≡ suc (b - (k + 1)) = omega (arith, t.from) in
         record { from = omega (arith, t.from); below = omega (arith, t.below); has = rw n t.has }
 
-pub first_from : (p : ℕ → Bool) (xs : List ℕ) (k b : ℕ) → first_with p (drop k xs) k ≡ At b → First p xs k b
+pub first_from : (p : ℕ → Bool) (xs : List ℕ) (k b : ℕ) → first_with p (drop k xs) k ≡ Some b → First p xs k b
 first_from p xs k b e =
     let t = met p (drop k xs) k b e in
     let n : k + (b - k) ≡ b = omega (arith, t.from) in

@@ -2,10 +2,8 @@
 -- are: after an entry has left, or all from an entry on have, what was in use and no longer is holds 0, every place past those holds
 -- what it held, there are as many places as before, and the entries that stay keep their order.
 -- Assumes nothing.
-use Rattle.std.proofs.Common.{ℕ, ◌+◌, ◌-◌, ◌≤◌, ◌<◌, ◌≡◌, refl, ap, sym, ◌∙◌, List, ◌∷◌, ◌++◌, arith, length, get_or, take, drop, replicate, length-append, length-take, length-drop, take-append-drop, get_or-take, get_or-drop, get_or-append-add, length-take-le}
+use Rattle.std.proofs.Common.{ℕ, ◌+◌, ◌-◌, ◌≤◌, ◌<◌, ◌≡◌, refl, ap, sym, ◌∙◌, List, ◌∷◌, ◌++◌, arith, length, get_or, take, drop, replicate, length-append, length-take, length-drop, take-append-drop, get_or-take, get_or-drop, get_or-append-add, length-take-le, None, Option, Some}
 use Rattle.std.proofs.Math.ListN.{length-replicate, get_or-replicate, get_or-append}
-use Rattle.places.specs.declared.Found.{Found}
-use Rattle.places.specs.declared.Found.TheVariants.{At, Nothing}
 use Rattle.places.specs.Places.{Places, places_of, without, within, cut, place_of, left, left_at, after_at, exchanged, exchanged_at}
 use Rattle.places.proofs.Laws.{place_lt}
 
@@ -49,16 +47,13 @@ given s h t d e le ld lh q =
 
 -- the places from what is in use and what is not
 joined : (t : List ℕ) (e : ℕ) (p : Places) → places_of t e ≡ p → t ≡ p.held ++ p.free
-unfolding places_of
 joined t e p q = sym (take-append-drop e t) ∙ ap (λ (x : Places). x.held ++ x.free) q
 
 counted : (t : List ℕ) (e : ℕ) (p : Places) → places_of t e ≡ p → e ≡ p.size
-unfolding places_of
 counted t e p q = ap (λ (x : Places). x.size) q
 
 -- nothing is given up where the places stay
 kept : (s t : List ℕ) (d e : ℕ) → places_of t e ≡ places_of s d → GivenUp s t d e
-unfolding places_of
 kept s t d e q =
     let z = counted t e (places_of s d) q in
     rw (joined t e (places_of s d) q ∙ take-append-drop d s) (record { size = refl; zero = λ k a b. absurd (omega arith); rest = λ k a. refl })
@@ -72,7 +67,7 @@ wi_length h i n = simp (length-append, length-take, length-drop) (omega arith)
 module _ (s t : List ℕ) (d : ℕ) (l : d ≤ length s) where
   -- entry i leaves
   leaves : (i : ℕ) → i < d → places_of t (d - 1) ≡ without (places_of s d) i → t ≡ (take i (take d s) ++ drop (i + 1) (take d s)) ++ (0 ∷ drop d s)
-  unfolding places_of without
+  unfolding without
   leaves i h q = joined t (d - 1) (without (places_of s d) i) q
 
   pub without_gives_up : (i : ℕ) → i < d → places_of t (d - 1) ≡ without (places_of s d) i
@@ -105,7 +100,7 @@ module _ (s t : List ℕ) (d : ℕ) (l : d ≤ length s) where
 
   -- entry i and all after it leave
   pub cut_gives_up : (i : ℕ) → i ≤ d → places_of t i ≡ cut (places_of s d) i → GivenUp s t d i × ((k : ℕ) → k < i → get_or t k 0 ≡ get_or s k 0)
-  unfolding places_of cut
+  unfolding cut
   cut_gives_up i h q = (
     given s (take i (take d s)) t d i h l low whole,
     λ k a.
@@ -123,18 +118,18 @@ module _ (s t : List ℕ) (d : ℕ) (l : d ≤ length s) where
 
   -- n leaves, if it is there
   pub left_gives_up : (e n : ℕ) → places_of t e ≡ left (places_of s d) n → GivenUp s t d e
-  unfolding left left_at without places_of
+  unfolding left left_at without
   left_gives_up e n q = by (place_of (places_of s d) n) refl q
     where
-      by : (r : Found) → place_of (places_of s d) n ≡ r → places_of t e ≡ left_at r (places_of s d) → GivenUp s t d e
-      by Nothing a b = kept s t d e b
-      by (At j) a b =
+      by : (r : Option ℕ) → place_of (places_of s d) n ≡ r → places_of t e ≡ left_at r (places_of s d) → GivenUp s t d e
+      by None a b = kept s t d e b
+      by (Some j) a b =
           let g : e ≡ d - 1 = counted t e (without (places_of s d) j) b in
           rw g (without_gives_up j (place_lt s d n j l a) (rw g at b)).0
 
   -- f leaves and n comes right after x: a place is given up only where f is there and x is not
   pub exchanged_gives_up : (e f x n : ℕ) → places_of t e ≡ exchanged (places_of s d) f x n → GivenUp s t d e
-  unfolding exchanged exchanged_at without within after_at places_of
+  unfolding exchanged exchanged_at without within after_at
   exchanged_gives_up e f x n q = by (place_of (places_of s d) f) refl q
     where
       again : (j i : ℕ) → j < d → places_of t e ≡ within (without (places_of s d) j) (i + 1) n → GivenUp s t d e
@@ -147,12 +142,12 @@ module _ (s t : List ℕ) (d : ℕ) (l : d ≤ length s) where
           (omega (arith, wi_length (take j (take d s) ++ drop (j + 1) (take d s)) (i + 1) n, wo_length s d j h l))
           (rw z (joined t e (within (without (places_of s d) j) (i + 1) n) b)))
 
-      after : (j : ℕ) → j < d → (r : Found) → places_of t e ≡ after_at r (without (places_of s d) j) n → GivenUp s t d e
-      after j h Nothing b =
+      after : (j : ℕ) → j < d → (r : Option ℕ) → places_of t e ≡ after_at r (without (places_of s d) j) n → GivenUp s t d e
+      after j h None b =
           let g : e ≡ d - 1 = counted t e (without (places_of s d) j) b in
           rw g (without_gives_up j h (rw g at b)).0
-      after j h (At i) b = again j i h b
+      after j h (Some i) b = again j i h b
 
-      by : (r : Found) → place_of (places_of s d) f ≡ r → places_of t e ≡ exchanged_at r (places_of s d) x n → GivenUp s t d e
-      by Nothing a b = kept s t d e b
-      by (At j) a b = after j (place_lt s d f j l a) (place_of (without (places_of s d) j) x) b
+      by : (r : Option ℕ) → place_of (places_of s d) f ≡ r → places_of t e ≡ exchanged_at r (places_of s d) x n → GivenUp s t d e
+      by None a b = kept s t d e b
+      by (Some j) a b = after j (place_lt s d f j l a) (place_of (without (places_of s d) j) x) b

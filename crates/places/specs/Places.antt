@@ -2,9 +2,7 @@
 -- stack of template insertion modes. `held` is what is in use, in order, `size` how many that are, and `free` what the places
 -- after them hold. A place that is given up is set to 0.
 -- Assumes nothing.
-use Rattle.std.specs.Prelude.{ℕ, zero, suc, ◌+◌, ◌-◌, ◌≡◌, Bool, false, cond, List, [], ◌∷◌, ◌++◌, length, get_or, take, drop, set, replicate, eqb, ltb}
-use Rattle.places.specs.declared.Found.{Found}
-use Rattle.places.specs.declared.Found.TheVariants.{At, Nothing}
+use Rattle.std.specs.Prelude.{ℕ, zero, suc, ◌+◌, ◌-◌, ◌≡◌, Bool, false, cond, List, [], ◌∷◌, ◌++◌, length, get_or, take, drop, set, replicate, eqb, ltb, None, Option, Some}
 
 pub record Places : Type 0 where
   pub held : List ℕ
@@ -12,7 +10,7 @@ pub record Places : Type 0 where
   pub size : ℕ
 
 -- the places s of which the first d are in use
-unfoldable pub places_of : List ℕ → ℕ → Places
+abbrev pub places_of : List ℕ → ℕ → Places
 places_of s d = record { held = take d s; free = drop d s; size = d }
 
 -- as many are in use as there should be: the lent places were not fewer
@@ -48,19 +46,19 @@ unfoldable pub cut : Places → ℕ → Places
 cut p i = record { held = take i p.held; free = replicate (length p.held - i) 0 ++ p.free; size = i }
 
 -- the last of the first k entries of xs that has `hit`, unless one that has `stop` stands after it
-unfoldable pub down : (ℕ → Bool) → (ℕ → Bool) → List ℕ → ℕ → Found
-down hit stop xs zero = Nothing
-down hit stop xs (suc k) = cond (hit (get_or xs k 0)) (At k) (cond (stop (get_or xs k 0)) Nothing (down hit stop xs k))
+unfoldable pub down : (ℕ → Bool) → (ℕ → Bool) → List ℕ → ℕ → Option ℕ
+down hit stop xs zero = None
+down hit stop xs (suc k) = cond (hit (get_or xs k 0)) (Some k) (cond (stop (get_or xs k 0)) None (down hit stop xs k))
 
 -- what was found first, or else the other
-unfoldable pub first_of : Found → Found → Found
-first_of (At i) other = At i
-first_of Nothing other = other
+unfoldable pub first_of : Option ℕ → Option ℕ → Option ℕ
+first_of (Some i) other = Some i
+first_of None other = other
 
 -- the first entry of xs that has p, where the entries of xs are numbered from k on
-unfoldable pub first_with : (ℕ → Bool) → List ℕ → ℕ → Found
-first_with p [] k = Nothing
-first_with p (x ∷ xs) k = cond (p x) (At k) (first_with p xs (k + 1))
+unfoldable pub first_with : (ℕ → Bool) → List ℕ → ℕ → Option ℕ
+first_with p [] k = None
+first_with p (x ∷ xs) k = cond (p x) (Some k) (first_with p xs (k + 1))
 
 abbrev pub never : ℕ → Bool
 never x = false
@@ -68,38 +66,38 @@ never x = false
 abbrev pub same : ℕ → ℕ → Bool
 same n x = eqb x n
 
-unfoldable pub last_with : (ℕ → Bool) → (ℕ → Bool) → Places → Found
+unfoldable pub last_with : (ℕ → Bool) → (ℕ → Bool) → Places → Option ℕ
 last_with hit stop p = down hit stop p.held (length p.held)
 
 -- where n stands
-unfoldable pub place_of : Places → ℕ → Found
+unfoldable pub place_of : Places → ℕ → Option ℕ
 place_of p n = last_with (same n) never p
 
 -- n comes right after entry i, if there is one
-unfoldable pub after_at : Found → Places → ℕ → Places
-after_at Nothing p n = p
-after_at (At i) p n = within p (i + 1) n
+unfoldable pub after_at : Option ℕ → Places → ℕ → Places
+after_at None p n = p
+after_at (Some i) p n = within p (i + 1) n
 
 -- entry j leaves, if there is one, and n comes right after x
-unfoldable pub exchanged_at : Found → Places → ℕ → ℕ → Places
-exchanged_at Nothing p x n = p
-exchanged_at (At j) p x n = after_at (place_of (without p j) x) (without p j) n
+unfoldable pub exchanged_at : Option ℕ → Places → ℕ → ℕ → Places
+exchanged_at None p x n = p
+exchanged_at (Some j) p x n = after_at (place_of (without p j) x) (without p j) n
 
 -- f leaves and n comes right after x
 unfoldable pub exchanged : Places → ℕ → ℕ → ℕ → Places
 exchanged p f x n = exchanged_at (place_of p f) p x n
 
-unfoldable pub renamed_at : Found → Places → ℕ → Places
-renamed_at Nothing p n = p
-renamed_at (At j) p n = swapped p j n
+unfoldable pub renamed_at : Option ℕ → Places → ℕ → Places
+renamed_at None p n = p
+renamed_at (Some j) p n = swapped p j n
 
 -- n takes the place of f
 unfoldable pub renamed : Places → ℕ → ℕ → Places
 renamed p f n = renamed_at (place_of p f) p n
 
-unfoldable pub left_at : Found → Places → Places
-left_at Nothing p = p
-left_at (At j) p = without p j
+unfoldable pub left_at : Option ℕ → Places → Places
+left_at None p = p
+left_at (Some j) p = without p j
 
 -- n leaves, if it is there
 unfoldable pub left : Places → ℕ → Places

@@ -1,27 +1,20 @@
 -- What the questions can answer: reset a mode, 1 to 21, or 3; is_foreign 0 or 1, or 2; body_elem always; tokenizer state 0 to 4, or
 -- 2 or 3.
 -- Assumes nothing.
-use Rattle.std.proofs.Common.{ℕ, zero, suc, ◌-◌, ◌<◌, ◌≤◌, ◌≡◌, refl, ◌⊎◌, inl, inr, Bool, true, false, cond, not, ◌&&◌, ◌||◌, List, arith, eqb, ltb}
+use Rattle.std.proofs.Common.{ℕ, zero, suc, ◌-◌, ◌<◌, ◌≤◌, ◌≡◌, refl, ◌⊎◌, inl, inr, Bool, true, false, cond, not, ◌&&◌, ◌||◌, List, arith, eqb, ltb, None, Option, Some}
 use Rattle.std.proofs.lemmas.Bool.{eqb-false}
 use Rattle.names.specs.Space as space
 use Rattle.names.specs.Tag as tag
 use Rattle.places.specs.Places.{Places, at}
 use Rattle.state.specs.declared.Context.{Context}
-use Rattle.state.specs.declared.Context.TheVariants.{None, Element}
 use Rattle.state.specs.Full.{Full}
 use Rattle.sound.specs.State.{SoundFull}
-use Rattle.queries.specs.declared.Asked.{Asked}
-use Rattle.queries.specs.declared.element.Expanded.{Expanded}
-use Rattle.queries.specs.declared.reset.Step.{Step}
-use Rattle.queries.specs.declared.reset.Step.TheVariants.{Mode, Template, Next}
 use Rattle.queries.specs.declared.reset.Reset.{Reset}
-use Rattle.queries.specs.declared.reset.Reset.TheVariants as reset
-use Rattle.queries.specs.declared.body_elem.Body.{Body}
-use Rattle.queries.specs.declared.body_elem.Body.TheVariants as body
-use Rattle.queries.specs.declared.tokenizer.Start.{Start}
-use Rattle.queries.specs.declared.tokenizer.Start.TheVariants.{Data, Rcdata, Rawtext, ScriptData, Plaintext}
-use Rattle.queries.specs.Told.{told, refused}
-use Rattle.queries.specs.Element.{standing}
+use Rattle.queries.specs.declared.reset.Reset.TheVariants.{Mode, Template}
+use Rattle.queries.specs.declared.tokenizer.TokenizerState.{TokenizerState}
+use Rattle.queries.specs.declared.tokenizer.TokenizerState.TheVariants.{Data, Rcdata, Rawtext, ScriptData, Plaintext}
+use Rattle.queries.specs.Told.{Asked, told, refused}
+use Rattle.queries.specs.Element.{Expanded, standing}
 use Rattle.queries.specs.Reset.{BEFORE_HEAD, AFTER_HEAD, IN_CELL, IN_ROW, IN_TABLE_BODY, IN_CAPTION, IN_COLUMN_GROUP, IN_TABLE, IN_HEAD, IN_BODY, IN_FRAMESET, mode_for, mode_at, onward, walked, given, reset_mode}
 use Rattle.queries.specs.Foreign.{bad_token, is_html_content, adjusted, is_foreign}
 use Rattle.queries.specs.BodyElem.{second, body_elem}
@@ -46,20 +39,20 @@ module _ {low high most : ℕ} where
 
 -- ---- the modes of the steps
 
-data Listed : Step → Type 0 where
-  mode : (v : ℕ) → 1 ≤ v → v ≤ 21 → Listed (Mode v)
-  template : Listed Template
-  next : Listed Next
+data Listed : Option Reset → Type 0 where
+  mode : (v : ℕ) → 1 ≤ v → v ≤ 21 → Listed (Some (Mode v))
+  template : Listed (Some Template)
+  next : Listed None
 
 data Found : Reset → Type 0 where
-  mode : (v : ℕ) → 1 ≤ v → v ≤ 21 → Found (reset.Mode v)
-  template : Found reset.Template
+  mode : (v : ℕ) → 1 ≤ v → v ≤ 21 → Found (Mode v)
+  template : Found Template
 
-listed_or : (b : Bool) {x y : Step} → Listed x → Listed y → Listed (cond b x y)
+listed_or : (b : Bool) {x y : Option Reset} → Listed x → Listed y → Listed (cond b x y)
 listed_or true p q = p
 listed_or false p q = q
 
-listed_head : (b : Bool) → Listed (Mode (cond b BEFORE_HEAD AFTER_HEAD))
+listed_head : (b : Bool) → Listed (Some (Mode (cond b BEFORE_HEAD AFTER_HEAD)))
 listed_head true = mode BEFORE_HEAD (omega arith) (omega arith)
 listed_head false = mode AFTER_HEAD (omega arith) (omega arith)
 
@@ -82,13 +75,13 @@ listed_at : (head : ℕ) (last : Bool) (e : Expanded) → Listed (mode_at head l
 unfolding mode_at
 listed_at head last e = listed_or (eqb e.space space.html) (listed_name head last e.name) next
 
-found_on : {s : Step} {r : Reset} → Listed s → Found r → Found (onward s r)
+found_on : {s : Option Reset} {r : Reset} → Listed s → Found r → Found (onward s r)
 unfolding onward
 found_on (mode v a b) f = mode v a b
 found_on template f = template
 found_on next f = f
 
-found_walked : (m : List ℕ) (s : Places) (x : Context) (head k : ℕ) → Found (walked m s x head k)
+found_walked : (m : List ℕ) (s : Places) (x : Option Context) (head k : ℕ) → Found (walked m s x head k)
 unfolding walked
 found_walked m s x head zero = mode IN_BODY (omega arith) (omega arith)
 found_walked m s x head (suc k) = found_on (listed_at head (eqb k 0) (standing m x (at s k) k)) (found_walked m s x head k)
@@ -120,11 +113,11 @@ pub body_answers : (f : Full) → (body_elem f).answer ≡ 0
 unfolding body_elem bodies.given
 body_answers f = by (second f.nodes.mem f.stack)
   where
-    by : (b : Body) → (bodies.given b).answer ≡ 0
-    by (body.At n) = refl
-    by body.Nothing = refl
+    by : (b : Option ℕ) → (bodies.given b).answer ≡ 0
+    by (Some n) = refl
+    by None = refl
 
-tokenizer_number : (t : Start) → Within 0 4 3 (tokens.given t)
+tokenizer_number : (t : TokenizerState) → Within 0 4 3 (tokens.given t)
 unfolding tokens.given
 tokenizer_number Data = value 0 (omega arith) (omega arith)
 tokenizer_number Rcdata = value 1 (omega arith) (omega arith)
@@ -136,6 +129,6 @@ pub tokenizer_answers : (f : Full) (scripting : ℕ) → Within 0 4 3 (tokenizer
 unfolding tokenizer_state for_context
 tokenizer_answers f scripting = within_or (ltb 1 scripting) (λ e. refusal 2 (omega arith) (omega arith)) (λ e. by f.context)
   where
-    by : (x : Context) → Within 0 4 3 (for_context scripting x)
+    by : (x : Option Context) → Within 0 4 3 (for_context scripting x)
     by None = refusal 3 (omega arith) (omega arith)
-    by (Element ns name mark) = tokenizer_number (state_in scripting ns name)
+    by (Some x) = tokenizer_number (state_in scripting x.space x.name)

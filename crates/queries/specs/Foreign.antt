@@ -1,6 +1,6 @@
 -- 13.2.6, the tree construction dispatcher: whether a token is processed by the rules for foreign content.
 -- Assumes nothing.
-use Rattle.std.specs.Prelude.{ℕ, ◌-◌, Bool, cond, not, ◌&&◌, ◌||◌, List, eqb, ltb, leb}
+use Rattle.std.specs.Prelude.{ℕ, zero, suc, ◌-◌, Bool, true, false, cond, not, ◌&&◌, ◌||◌, List, eqb, ltb, leb, Option, Result as OkOrErr, Ok, Err}
 use Rattle.names.specs.Numbers.{is_name}
 use Rattle.names.specs.Space as space
 use Rattle.names.specs.Tag as tag
@@ -8,10 +8,12 @@ use Rattle.names.specs.Sets.{is_in, MathTextPoints, is_html_point}
 use Rattle.places.specs.Places.{Places, at}
 use Rattle.state.specs.declared.Context.{Context}
 use Rattle.state.specs.Full.{Full}
-use Rattle.queries.specs.declared.Asked.{Asked}
-use Rattle.queries.specs.declared.element.Expanded.{Expanded}
-use Rattle.queries.specs.Told.{told, refused}
-use Rattle.queries.specs.Element.{standing}
+use Rattle.records.specs.declared.refusal.Refusal.{Refusal}
+use Rattle.records.specs.declared.refusal.Refusal.TheVariants.{Unknown}
+use Rattle.queries.specs.declared.foreign.TokenKind.{TokenKind}
+use Rattle.queries.specs.declared.foreign.TokenKind.TheVariants.{StartTag, EndTag, Characters, Null, Comment, EndOfFile}
+use Rattle.queries.specs.Told.{Asked, told, refused}
+use Rattle.queries.specs.Element.{Expanded, standing}
 
 -- the kinds of tokens
 abbrev pub START_TAG : ℕ
@@ -28,6 +30,24 @@ NULL = 3
 
 abbrev pub END_OF_FILE : ℕ
 END_OF_FILE = 5
+
+-- the same as an enum
+abbrev pub kind_number : TokenKind → ℕ
+kind_number StartTag = 0
+kind_number EndTag = 1
+kind_number Characters = 2
+kind_number Null = 3
+kind_number Comment = 4
+kind_number EndOfFile = 5
+
+abbrev pub kind_of : ℕ → OkOrErr TokenKind Refusal
+kind_of zero = Ok StartTag
+kind_of (suc zero) = Ok EndTag
+kind_of (suc (suc zero)) = Ok Characters
+kind_of (suc (suc (suc zero))) = Ok Null
+kind_of (suc (suc (suc (suc zero)))) = Ok Comment
+kind_of (suc (suc (suc (suc (suc zero))))) = Ok EndOfFile
+kind_of (suc (suc (suc (suc (suc (suc n)))))) = Err Unknown
 
 -- answer 2: an unknown kind; a tag without a known name; a name for anything but a tag
 unfoldable pub bad_token : ℕ → ℕ → Bool
@@ -61,8 +81,13 @@ is_html_content e kind name =
     || (for_text_point e kind name || (for_annotation e kind name || (for_html_point e kind || eqb kind END_OF_FILE)))
 
 -- 13.2.4.2: the adjusted current node is the context element in the fragment case where only one element is open, else the current node
-unfoldable pub adjusted : List ℕ → Places → Context → Expanded
+unfoldable pub adjusted : List ℕ → Places → Option Context → Expanded
 adjusted m s x = standing m x (at s (s.size - 1)) (s.size - 1)
+
+-- yes and no by number
+abbrev pub flag_number : Bool → ℕ
+flag_number true = 1
+flag_number false = 0
 
 unfoldable pub is_foreign : Full → ℕ → ℕ → Asked
 is_foreign f kind name =

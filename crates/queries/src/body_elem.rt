@@ -2,65 +2,42 @@
 ghost use Rattle.std.specs.Prelude.{◌≡◌};
 ghost use Rattle.places.specs.Places.{places_of};
 ghost use Rattle.sound.specs.State.{SoundFull};
-ghost use Rattle.edge.specs.Public.{whole, Checked};
-ghost use Rattle.queries.specs.Told.{refused};
-ghost use Rattle.queries.specs.BodyElem.{second, given, body_elem};
+ghost use Rattle.edge.specs.Public.{whole_seen, Checked};
+ghost use Rattle.queries.specs.Told.{asked, refused};
+ghost use Rattle.queries.specs.BodyElem.{second, node_number, FindsNode, body_elem};
 
-use crate::Asked;
 use lent::Node;
 use location::html;
 use names::tag;
-use state::State;
+use records::refusal::Refusal;
+use state::lent::Seen;
+use state::{Stack, State};
 
-#[derive(Clone, Copy)]
-pub enum Body {
-    At(u16),
-    Nothing,
-}
-
-fn find(nodes: &[u8], h: &[u16; 512], depth: usize) -> Body
-    ensures { result ≡ second nodes.now (places_of h.now depth) }
+#[tactic(auto, using(places::proofs::Laws::at_of), unfolding(crate::specs::BodyElem::second))]
+fn find(nodes: &[u8], stack: &Stack) -> Option<u16>
+    ensures { result ≡ second nodes.now (places_of stack.now.handles stack.now.depth) }
 {
-    if depth <= 1 {
-        return Body::Nothing;
+    if stack.depth <= 1 {
+        return None;
     }
-    let n = h[1];
+    let n = stack.handles[1];
     if html::is_html(nodes, Node(n), tag::BODY) {
-        return Body::At(n);
+        return Some(n);
     }
-    Body::Nothing
+    None
 }
 
-fn give(b: Body) -> Asked
-    ensures { result ≡ given b }
+/// The body element (13.2.6.4.7): the second element of the stack of open elements, if it is a `body`. `Unsound` for a state that is not
+/// sound.
+pub fn body_elem(state: State, seen: Seen<'_>) -> Result<Option<Node>, Refusal>
+    ensures told { Checked (SoundFull (whole_seen state seen.entry)) (asked node_number result) (body_elem (whole_seen state seen.entry)) (refused 1) }
+    ensures node { FindsNode result }
 {
-    match b {
-        Body::At(n) => Asked {
-            answer: 0,
-            value: n as usize,
-        },
-        Body::Nothing => Asked {
-            answer: 0,
-            value: 0,
-        },
+    if !edge::is_sound(state, seen) {
+        return Err(Refusal::Unsound);
     }
-}
-
-pub fn body_elem(
-    state: State,
-    nodes: &[u8],
-    list: &[u16],
-    modes: &[u16],
-    pieces: &[u8],
-    pairs: &[u8],
-) -> Asked
-    ensures { Checked (SoundFull (whole state nodes.now list.now modes.now pieces.now pairs.now)) result (body_elem (whole state nodes.now list.now modes.now pieces.now pairs.now)) (refused 1) }
-{
-    if !edge::is_sound(state, nodes, list, modes, pieces, pairs) {
-        return Asked {
-            answer: 1,
-            value: 0,
-        };
+    match find(seen.nodes, &state.stack) {
+        Some(n) => Ok(Some(Node(n))),
+        None => Ok(None),
     }
-    give(find(nodes, &state.stack.handles, state.stack.depth))
 }

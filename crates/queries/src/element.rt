@@ -6,32 +6,27 @@ ghost use Rattle.queries.specs.Element as def;
 use lent::Node;
 use state::Context;
 
-// An element's expanded name, and its mark.
-#[derive(Clone, Copy)]
-pub struct Expanded {
-    pub space: u16,
-    pub name: u16,
-    pub mark: u16,
-}
+/// An element as the rules look at it: its namespace, name and mark. A fragment's context is one too.
+pub type Expanded = Context;
 
+#[tactic(auto, unfolding(crate::specs::Element::expanded))]
 fn expand(nodes: &[u8], n: Node) -> Expanded
     ensures { result ≡ expanded nodes.now n.0 }
 {
-    let space = lent::get(nodes, n, Node::SPACE);
-    let name = lent::get(nodes, n, Node::NAME);
-    let mark = lent::get(nodes, n, Node::MARK);
-    Expanded { space, name, mark }
+    Context {
+        space: lent::get(nodes, n, Node::SPACE),
+        name: lent::get(nodes, n, Node::NAME),
+        mark: lent::get(nodes, n, Node::MARK),
+    }
 }
 
-// n is entry k of the stack. The context element, if there is one, stands in for entry 0.
-pub fn standing(nodes: &[u8], context: Context, n: Node, k: usize) -> Expanded
+#[tactic(auto, unfolding(crate::specs::Element::standing, crate::specs::Element::context_or))]
+/// What entry k of the stack, node n, stands for: in the fragment case the context element stands in for entry 0 (13.2.4.1, 13.2.4.2).
+pub fn standing(nodes: &[u8], context: Option<Context>, n: Node, k: usize) -> Expanded
     ensures { result ≡ def.standing nodes.now context n.0 k }
 {
-    if k != 0 {
-        return expand(nodes, n);
-    }
     match context {
-        Context::None => expand(nodes, n),
-        Context::Element { space, name, mark } => Expanded { space, name, mark },
+        Some(x) if k == 0 => x,
+        _ => expand(nodes, n),
     }
 }

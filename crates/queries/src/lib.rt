@@ -6,10 +6,3 @@ pub mod element;
 pub mod foreign;
 pub mod reset;
 pub mod tokenizer;
-
-// A question's answer, and what it gives: 0 where it is refused.
-#[derive(Clone, Copy)]
-pub struct Asked {
-    pub answer: usize,
-    pub value: usize,
-}

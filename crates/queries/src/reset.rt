@@ -2,18 +2,20 @@
 ghost use Rattle.std.specs.Prelude.{◌≡◌, ◌≤◌, length};
 ghost use Rattle.places.specs.Places.{places_of};
 ghost use Rattle.sound.specs.State.{SoundFull};
-ghost use Rattle.edge.specs.Public.{whole, Checked};
-ghost use Rattle.queries.specs.Told.{refused};
-ghost use Rattle.queries.specs.Reset.{mode_for, mode_at, walked, given, reset_mode};
+ghost use Rattle.edge.specs.Public.{whole_seen, Checked};
+ghost use Rattle.queries.specs.Told.{asked, refused};
+ghost use Rattle.queries.specs.Reset.{mode_for, mode_at, walked, mode_number, given, reset_mode};
 
+use crate::element;
 use crate::element::Expanded;
-use crate::{Asked, element};
 use lent::Node;
 use names::{Namespace, tag};
-use state::{Context, State};
+use records::refusal::Refusal;
+use state::lent::Seen;
+use state::{Context, Stack, State};
 
-// Insertion modes, by their number in the standard's order.
-#[derive(Clone, Copy)]
+/// An insertion mode, by its number in the standard's order, from 1 to 21 (13.2.4.1).
+#[derive(Clone, Copy, Debug, PartialEq, Eq)]
 pub struct Mode(pub u16);
 
 impl Mode {
@@ -40,144 +42,87 @@ impl Mode {
     pub const IN_FRAMESET: u16 = 18;
 }
 
-// What one entry decides: the mode, that the current template insertion mode is the mode, or nothing.
-#[derive(Clone, Copy)]
-pub enum Step {
-    Mode(u16),
-    Template,
-    Next,
-}
-
-// What the stack decides.
-#[derive(Clone, Copy)]
+/// What an entry of the stack decides, or the stack: the mode, or that it is the current template insertion mode.
+#[derive(Clone, Copy, Debug, PartialEq, Eq)]
 pub enum Reset {
     Mode(u16),
     Template,
 }
 
 // Steps 4 to 14 for an HTML element with this name.
-fn mode_for(name: u16, last: bool, head: usize) -> Step
+#[tactic(auto, unfolding(crate::specs::Reset::mode_for))]
+fn mode_for(name: u16, last: bool, head: usize) -> Option<Reset>
     ensures { result ≡ mode_for head last name }
 {
     match name {
-        tag::TD | tag::TH => {
-            if last {
-                Step::Next
-            } else {
-                Step::Mode(Mode::IN_CELL)
-            }
-        }
-        tag::TR => Step::Mode(Mode::IN_ROW),
-        tag::TBODY | tag::THEAD | tag::TFOOT => Step::Mode(Mode::IN_TABLE_BODY),
-        tag::CAPTION => Step::Mode(Mode::IN_CAPTION),
-        tag::COLGROUP => Step::Mode(Mode::IN_COLUMN_GROUP),
-        tag::TABLE => Step::Mode(Mode::IN_TABLE),
-        tag::TEMPLATE => Step::Template,
-        tag::HEAD => {
-            if last {
-                Step::Next
-            } else {
-                Step::Mode(Mode::IN_HEAD)
-            }
-        }
-        tag::BODY => Step::Mode(Mode::IN_BODY),
-        tag::FRAMESET => Step::Mode(Mode::IN_FRAMESET),
-        tag::HTML => {
-            if head == 0 {
-                Step::Mode(Mode::BEFORE_HEAD)
-            } else {
-                Step::Mode(Mode::AFTER_HEAD)
-            }
-        }
-        _ => Step::Next,
+        tag::TD | tag::TH if !last => Some(Reset::Mode(Mode::IN_CELL)),
+        tag::TR => Some(Reset::Mode(Mode::IN_ROW)),
+        tag::TBODY | tag::THEAD | tag::TFOOT => Some(Reset::Mode(Mode::IN_TABLE_BODY)),
+        tag::CAPTION => Some(Reset::Mode(Mode::IN_CAPTION)),
+        tag::COLGROUP => Some(Reset::Mode(Mode::IN_COLUMN_GROUP)),
+        tag::TABLE => Some(Reset::Mode(Mode::IN_TABLE)),
+        tag::TEMPLATE => Some(Reset::Template),
+        tag::HEAD if !last => Some(Reset::Mode(Mode::IN_HEAD)),
+        tag::BODY => Some(Reset::Mode(Mode::IN_BODY)),
+        tag::FRAMESET => Some(Reset::Mode(Mode::IN_FRAMESET)),
+        tag::HTML if head == 0 => Some(Reset::Mode(Mode::BEFORE_HEAD)),
+        tag::HTML => Some(Reset::Mode(Mode::AFTER_HEAD)),
+        _ => None,
     }
 }
 
 // The same for any element.
-fn mode_at(e: Expanded, last: bool, head: usize) -> Step
+#[tactic(auto, unfolding(crate::specs::Reset::mode_at))]
+fn mode_at(e: Expanded, last: bool, head: usize) -> Option<Reset>
     ensures { result ≡ mode_at head last e }
 {
-    if e.space != Namespace::HTML {
-        return Step::Next;
+    if e.space == Namespace::HTML {
+        mode_for(e.name, last, head)
+    } else {
+        None
     }
-    mode_for(e.name, last, head)
 }
 
 // From the current node up, until an entry decides.
-fn walk(nodes: &[u8], h: &[u16; 512], depth: usize, context: Context, head: usize) -> Reset
-    requires { depth ≤ 512 }
-    ensures { result ≡ walked nodes.now (places_of h.now depth) context head depth }
+#[tactic(auto, unfolding(crate::specs::Reset::walked))]
+fn walk(nodes: &[u8], stack: &Stack, context: Option<Context>, head: usize) -> Reset
+    requires { stack.now.depth ≤ 512 }
+    ensures { result ≡ walked nodes.now (places_of stack.now.handles stack.now.depth) context head stack.now.depth }
 {
-    let mut k = depth;
-    while 0 < k {
-        k -= 1;
-        let e = element::standing(nodes, context, Node(h[k]), k);
-        match mode_at(e, k == 0, head) {
-            Step::Mode(m) => {
-                return Reset::Mode(m);
-            }
-            Step::Template => {
-                return Reset::Template;
-            }
-            Step::Next => {}
+    for k in (0..stack.depth).rev() {
+        let e = element::standing(nodes, context, Node(stack.handles[k]), k);
+        if let Some(found) = mode_at(e, k == 0, head) {
+            return found;
         }
     }
     Reset::Mode(Mode::IN_BODY)
 }
 
-// The answer: 3 at a template where there is no template mode.
-fn give(r: Reset, modes: &[u16], count: usize) -> Asked
-    requires { count ≤ length modes.now }
-    ensures { result ≡ given r (places_of modes.now count) }
+// The last template mode, if there is one.
+#[tactic(auto, using(places::proofs::Laws::at_of), unfolding(crate::specs::Reset::given))]
+fn current_mode(modes: &[u16]) -> Result<Mode, Refusal>
+    ensures { asked mode_number result ≡ given Reset.Template (places_of modes.now (length modes.now)) }
 {
-    match r {
-        Reset::Mode(m) => Asked {
-            answer: 0,
-            value: m as usize,
-        },
-        Reset::Template => current_mode(modes, count),
+    match modes.last() {
+        Some(mode) => Ok(Mode(*mode)),
+        None => Err(Refusal::NothingToDo),
     }
 }
 
-fn current_mode(modes: &[u16], count: usize) -> Asked
-    requires { count ≤ length modes.now }
-    ensures { result ≡ given Reset.Template (places_of modes.now count) }
+/// The insertion mode that a reset gives (13.2.4.1). `Unsound` for a state that is not sound, `NothingToDo` at a template where there is no
+/// template mode.
+pub fn reset_insertion_mode(state: State, seen: Seen<'_>) -> Result<Mode, Refusal>
+    ensures { Checked (SoundFull (whole_seen state seen.entry)) (asked mode_number result) (reset_mode (whole_seen state seen.entry)) (refused 1) }
 {
-    if count == 0 {
-        return Asked {
-            answer: 3,
-            value: 0,
-        };
-    }
-    Asked {
-        answer: 0,
-        value: modes[count - 1] as usize,
-    }
-}
-
-pub fn reset_insertion_mode(
-    state: State,
-    nodes: &[u8],
-    list: &[u16],
-    modes: &[u16],
-    pieces: &[u8],
-    pairs: &[u8],
-) -> Asked
-    ensures { Checked (SoundFull (whole state nodes.now list.now modes.now pieces.now pairs.now)) result (reset_mode (whole state nodes.now list.now modes.now pieces.now pairs.now)) (refused 1) }
-{
-    if !edge::is_sound(state, nodes, list, modes, pieces, pairs) {
-        return Asked {
-            answer: 1,
-            value: 0,
-        };
+    if !edge::is_sound(state, seen) {
+        return Err(Refusal::Unsound);
     }
     let context = state.context;
-    let r = walk(
-        nodes,
-        &state.stack.handles,
-        state.stack.depth,
-        context,
-        state.flags.head,
-    );
-    give(r, modes, state.counts.modes)
+    match walk(seen.nodes, &state.stack, context, state.flags.head) {
+        Reset::Mode(m) => Ok(Mode(m)),
+        Reset::Template => {
+            let modes = &seen.modes[..state.counts.modes];
+            current_mode(modes)
+        }
+    }
 }

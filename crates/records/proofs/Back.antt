@@ -1,18 +1,14 @@
 -- What is read as a record was written so: where `item_at` gives a call, a record of that call stands, and where it gives an unknown
 -- call, such a number stands. So it says that a record is cut short or badly written exactly where neither stands.
 -- Assumes nothing.
-use Rattle.std.proofs.Common.{ℕ, zero, suc, ◌+◌, ◌*◌, ◌≤◌, ◌<◌, ◌≡◌, refl, sym, ap, ◌∙◌, subst, ◌≢◌, ◌⊎◌, inl, inr, ◌↔◌, Bool, true, false, List, [], ◌∷◌, ◌++◌, append_assoc, arith, eqb-true, ltb-true, ltb-false, eq-eqb, ne_eqb, lt-ltb, length, get_or, take, drop, length-append, take-append-drop, length-take-le, drop_at, eqb, ltb}
+use Rattle.std.proofs.Common.{ℕ, zero, suc, ◌+◌, ◌*◌, ◌≤◌, ◌<◌, ◌≡◌, refl, sym, ap, ◌∙◌, subst, ◌≢◌, ◌⊎◌, inl, inr, ◌↔◌, Bool, true, false, List, [], ◌∷◌, ◌++◌, append_assoc, arith, eqb-true, ltb-true, ltb-false, eq-eqb, ne_eqb, lt-ltb, length, get_or, take, drop, length-append, take-append-drop, length-take-le, drop_at, eqb, ltb, Option, Some, None, Ok, Err}
 use Rattle.std.proofs.Math.Decide.{ℕ_discrete}
 use Rattle.std.proofs.lemmas.Bool.{eqb-false}
-use Rattle.records.specs.declared.Read.{Read}
-use Rattle.records.specs.declared.Read.TheVariants as read
-use Rattle.records.specs.declared.Skip.{Skip}
-use Rattle.records.specs.declared.Skip.TheVariants as skip
 use Rattle.records.specs.declared.Record.{Record}
-use Rattle.records.specs.declared.Item.{Item}
-use Rattle.records.specs.declared.Item.TheVariants as is
-use Rattle.records.specs.Number.{number_at}
-use Rattle.records.specs.Record.{asked, skip_then, skip_at, and_then, end_then, pick, count_of, pairs_of, number_if, pairs_at, arguments_at, item_at}
+use Rattle.records.specs.declared.refusal.Refusal.TheVariants as refusal
+use Rattle.records.specs.Number.{number_at, Read}
+use Rattle.records.specs.Record.{asked, skip_then, skip_at, and_then, end_then, pick, count_of, pairs_of, number_if, pairs_at, arguments_at, item_at, Item}
+use Rattle.records.proofs.Past.{item_told}
 use Rattle.records.specs.Written.{encoded, encoded_all, flat, pair_numbers, record_of, Low, Written, Stands}
 use Rattle.records.proofs.Numbers.{Back, number_back}
 use Rattle.records.proofs.Records.{count_few, item_unknown, item_call}
@@ -69,18 +65,18 @@ nums_more {s} {i} {v} {q} {w} {xs} b t =
 
 -- ---- what is not cut short
 
-and_back : (r : Read) (k : ℕ → ℕ → Item) (x : Item) → and_then r k ≡ x → x ≢ is.Bad → (v : ℕ) × (q : ℕ) × (r ≡ read.Number v q) × (k v q ≡ x)
-and_back (read.Number v q) k x e n = (v, q, refl, e)
-and_back read.Bad k x e n = absurd (n (sym e))
+and_back : (r : Read) (k : ℕ → ℕ → Item) (x : Item) → and_then r k ≡ x → x ≢ Err refusal.BadRecord → (v : ℕ) × (q : ℕ) × (r ≡ Some (v, q)) × (k v q ≡ x)
+and_back (Some (v, q)) k x e n = (v, q, refl, e)
+and_back None k x e n = absurd (n (sym e))
 
-end_back : (r : Skip) (k : ℕ → Item) (x : Item) → end_then r k ≡ x → x ≢ is.Bad → (q : ℕ) × (r ≡ skip.At q) × (k q ≡ x)
-end_back (skip.At q) k x e n = (q, refl, e)
-end_back skip.Bad k x e n = absurd (n (sym e))
+end_back : (r : Option ℕ) (k : ℕ → Item) (x : Item) → end_then r k ≡ x → x ≢ Err refusal.BadRecord → (q : ℕ) × (r ≡ Some q) × (k q ≡ x)
+end_back (Some q) k x e n = (q, refl, e)
+end_back None k x e n = absurd (n (sym e))
 
-skip_at_lem : (a b : ℕ) → skip.At a ≡ skip.At b → a ≡ b
+skip_at_lem : (a b : ℕ) → Some a ≡ Some b → a ≡ b
 skip_at_lem a b e = cc
 
-skip_never : (b : ℕ) → skip.Bad ≡ skip.At b → ⊥
+skip_never : (b : ℕ) → None ≡ Some b → ⊥
 skip_never b e = let z : ◌≡◌ {A = ℕ} 0 1 = cc in omega arith
 
 -- names and text numbers, two and two
@@ -117,17 +113,21 @@ data Found (s : List ℕ) (i : ℕ) : Type 0 where
   unknown : (call : ℕ) → call ≤ 65535 → (call ≡ 0) ⊎ (18 < call) → Stands s i (encoded call) → Found s i
   known : (call : ℕ) (args : List ℕ) (ps : List (ℕ × ℕ)) → Written call args ps → Stands s i (record_of call args ps) → Found s i
 
-call_not_bad : (r : Record) (next : ℕ) → is.Call r next ≢ is.Bad
+call_not_bad : (r : Record) (next : ℕ) → ◌≢◌ {A = Item} (Ok (r, next)) (Err refusal.BadRecord)
 call_not_bad r next e = let z : ◌≡◌ {A = ℕ} 0 1 = cc in omega arith
 
-call_not_unknown : (r : Record) (next : ℕ) → is.Call r next ≢ is.Unknown
+call_not_unknown : (r : Record) (next : ℕ) → ◌≢◌ {A = Item} (Ok (r, next)) (Err refusal.Unknown)
 call_not_unknown r next e = let z : ◌≡◌ {A = ℕ} 0 1 = cc in omega arith
 
-unknown_not_bad : is.Unknown ≢ is.Bad
+unknown_not_bad : ◌≢◌ {A = Item} (Err refusal.Unknown) (Err refusal.BadRecord)
 unknown_not_bad e = let z : ◌≡◌ {A = ℕ} 0 1 = cc in omega arith
 
-same_call : (r r' : Record) {next next' : ℕ} → is.Call r next ≡ is.Call r' next' → r.call ≡ r'.call
-same_call r r' {next} {next'} e = let d : r ≡ r' = cc in ap (λ (x : Record). x.call) d
+same_call : (r r' : Record) {next next' : ℕ} → ◌≡◌ {A = Item} (Ok (r, next)) (Ok (r', next')) → r.call ≡ r'.call
+same_call r r' e = ap call_in e
+  where
+    call_in : Item → ℕ
+    call_in (Ok (r, next)) = r.call
+    call_in (Err e) = 0
 
 -- the arguments of a call that takes n
 arguments_for : List ℕ → ℕ → ℕ → ℕ → Item
@@ -135,35 +135,35 @@ arguments_for s i call n =
     and_then (number_if s i 0 n) (λ (a p : ℕ). and_then (number_if s p 1 n) (λ (b q : ℕ). and_then (number_if s q 2 n) (λ (c w : ℕ). pairs_at s w call a b c)))
 
 module _ (s : List ℕ) (small : (k : ℕ) → get_or s k 0 < 256) where
-  back : (i v q : ℕ) → number_at s i ≡ read.Number v q → Back s i v q
+  back : (i v q : ℕ) → number_at s i ≡ Some (v, q) → Back s i v q
   back i v q e = number_back s i small v q e
 
-  skip_back : (n i q : ℕ) → i ≤ length s → skip_at s i n ≡ skip.At q → (xs : List ℕ) × (length xs ≡ n) × Nums s i xs q
+  skip_back : (n i q : ℕ) → i ≤ length s → skip_at s i n ≡ Some q → (xs : List ℕ) × (length xs ≡ n) × Nums s i xs q
   unfolding skip_at
   skip_back zero i q h e = ([], refl, subst (λ (k : ℕ). Nums s i [] k) (skip_at_lem i q e) (nums_none s i h))
   skip_back (suc n) i q h e = by (number_at s i) refl e (λ j. skip_back n j q)
     where
-      by : (r : Read) → number_at s i ≡ r → skip_then r (λ (next : ℕ). skip_at s next n) ≡ skip.At q
-          → ((j : ℕ) → j ≤ length s → skip_at s j n ≡ skip.At q → (xs : List ℕ) × (length xs ≡ n) × Nums s j xs q)
+      by : (r : Read) → number_at s i ≡ r → skip_then r (λ (next : ℕ). skip_at s next n) ≡ Some q
+          → ((j : ℕ) → j ≤ length s → skip_at s j n ≡ Some q → (xs : List ℕ) × (length xs ≡ n) × Nums s j xs q)
           → (xs : List ℕ) × (length xs ≡ suc n) × Nums s i xs q
-      by read.Bad g f more = absurd (skip_never q f)
-      by (read.Number v j) g f more =
+      by None g f more = absurd (skip_never q f)
+      by (Some (v, j)) g f more =
           let t = back i v j g in
           let r = more j t.fits f in
           (v ∷ r.0, ap suc r.1, nums_more t r.2)
 
   -- ---- pairs
 
-  pairs_back : (i call a b c : ℕ) (x : Item) → i ≤ length s → pairs_at s i call a b c ≡ x → x ≢ is.Bad → (ps : List (ℕ × ℕ)) × PairsBack s i call ps
+  pairs_back : (i call a b c : ℕ) (x : Item) → i ≤ length s → pairs_at s i call a b c ≡ x → x ≢ Err refusal.BadRecord → (ps : List (ℕ × ℕ)) × PairsBack s i call ps
   unfolding pairs_at number_if pair_numbers encoded_all flat
   pairs_back i call a b c x h e n = by (ℕ_discrete (pairs_of call) 0)
     where
-      some : pairs_of call ≢ 0 → and_then (number_at s i) (λ (count from : ℕ). end_then (skip_at s from (count * 2)) (λ (next : ℕ). is.Call (asked call a b c from count) next)) ≡ x
+      some : pairs_of call ≢ 0 → and_then (number_at s i) (λ (count from : ℕ). end_then (skip_at s from (count * 2)) (λ (next : ℕ). Ok (asked call a b c from count, next))) ≡ x
           → (ps : List (ℕ × ℕ)) × PairsBack s i call ps
       some z f =
-          let t = and_back (number_at s i) (λ (count from : ℕ). end_then (skip_at s from (count * 2)) (λ (next : ℕ). is.Call (asked call a b c from count) next)) x f n in
+          let t = and_back (number_at s i) (λ (count from : ℕ). end_then (skip_at s from (count * 2)) (λ (next : ℕ). Ok (asked call a b c from count, next))) x f n in
           let u = back i t.0 t.1 t.2 in
-          let r = end_back (skip_at s t.1 (t.0 * 2)) (λ (next : ℕ). is.Call (asked call a b c t.1 t.0) next) x t.3 n in
+          let r = end_back (skip_at s t.1 (t.0 * 2)) (λ (next : ℕ). Ok (asked call a b c t.1 t.0, next)) x t.3 n in
           let k = skip_back (t.0 * 2) t.1 r.0 u.fits r.1 in
           let p = paired t.0 k.0 k.1 in
           let m = nums_more u k.2 in (
@@ -183,7 +183,7 @@ module _ (s : List ℕ) (small : (k : ℕ) → get_or s k 0 < 256) where
 
   -- ---- arguments
 
-  args_back : (n i call : ℕ) (x : Item) → n ≤ 3 → i ≤ length s → arguments_for s i call n ≡ x → x ≢ is.Bad → ArgsBack s i call n x
+  args_back : (n i call : ℕ) (x : Item) → n ≤ 3 → i ≤ length s → arguments_for s i call n ≡ x → x ≢ Err refusal.BadRecord → ArgsBack s i call n x
   unfolding arguments_for number_if
   args_back zero i call x l h e n = record { args = []; w = i; a = 0; b = 0; c = 0; count = refl; nums = nums_none s i h; rest = e }
   args_back (suc zero) i call x l h e n =
@@ -226,20 +226,20 @@ module _ (s : List ℕ) (small : (k : ℕ) → get_or s k 0 < 256) where
 
   -- ---- records
 
-  arguments_back : (i call : ℕ) (x : Item) → i ≤ length s → arguments_at s i call ≡ x → x ≢ is.Bad → ArgsBack s i call (count_of call) x
+  arguments_back : (i call : ℕ) (x : Item) → i ≤ length s → arguments_at s i call ≡ x → x ≢ Err refusal.BadRecord → ArgsBack s i call (count_of call) x
   unfolding arguments_at arguments_for
   arguments_back i call x h e n = args_back (count_of call) i call x (count_few call) h e n
 
   module _ (i : ℕ) where
     -- what stands there, where the record is not cut short or badly written
-    found : (x : Item) → item_at s i ≡ x → x ≢ is.Bad → Found s i
+    found : (x : Item) → item_at s i ≡ x → x ≢ Err refusal.BadRecord → Found s i
     unfolding item_at record_of
     found x e n =
         let t = and_back (number_at s i) _ x e n in
         by t.0 t.1 (back i t.0 t.1 t.2) (eqb t.0 0) (ltb 18 t.0) refl refl t.3
       where
         by : (call p : ℕ) → Back s i call p → (a b : Bool) → eqb call 0 ≡ a → ltb 18 call ≡ b
-            → pick a is.Unknown (pick b is.Unknown (arguments_at s p call)) ≡ x → Found s i
+            → pick a (Err refusal.Unknown) (pick b (Err refusal.Unknown) (arguments_at s p call)) ≡ x → Found s i
         by call p u true b d g f = unknown call u.small (inl (eqb-true call 0 d)) u.bytes
         by call p u false true d g f = unknown call u.small (inr (ltb-true 18 call g)) u.bytes
         by call p u false false d g f =
@@ -259,9 +259,9 @@ module _ (s : List ℕ) (small : (k : ℕ) → get_or s k 0 < 256) where
             (stands_on (encoded_all r.args) (encoded_all (pair_numbers call k.0)) r.nums.ends r.nums.stands k.1.stands))
 
     -- a call that is read was written as a record of that call
-    pub item_back : (r : Record) (next : ℕ) → item_at s i ≡ is.Call r next
+    pub item_back : (r : Record) (next : ℕ) → item_at s i ≡ Ok (r, next)
         → (args : List ℕ) × (ps : List (ℕ × ℕ)) × Written r.call args ps × Stands s i (record_of r.call args ps)
-    item_back r next e = by (found (is.Call r next) e (call_not_bad r next))
+    item_back r next e = by (found (Ok (r, next)) e (call_not_bad r next))
       where
         by : Found s i → (args : List ℕ) × (ps : List (ℕ × ℕ)) × Written r.call args ps × Stands s i (record_of r.call args ps)
         by (unknown k h o w) = absurd (call_not_unknown r next (sym e ∙ item_unknown s i k h o w))
@@ -270,15 +270,15 @@ module _ (s : List ℕ) (small : (k : ℕ) → get_or s k 0 < 256) where
             (args, ps, rw d at t, rw d at w)
 
     -- an unknown call that is read was written as a number that is no call's
-    pub unknown_back : item_at s i ≡ is.Unknown → (call : ℕ) × (call ≤ 65535) × ((call ≡ 0) ⊎ (18 < call)) × Stands s i (encoded call)
-    unknown_back e = by (found is.Unknown e unknown_not_bad)
+    pub unknown_back : item_at s i ≡ Err refusal.Unknown → (call : ℕ) × (call ≤ 65535) × ((call ≡ 0) ⊎ (18 < call)) × Stands s i (encoded call)
+    unknown_back e = by (found (Err refusal.Unknown) e unknown_not_bad)
       where
         by : Found s i → (call : ℕ) × (call ≤ 65535) × ((call ≡ 0) ⊎ (18 < call)) × Stands s i (encoded call)
         by (unknown k h o w) = (k, h, o, w)
         by (known k args ps t w) = absurd (call_not_unknown _ _ (sym (item_call s i k args ps t w).1.is ∙ e))
 
     -- a record is cut short or badly written exactly where neither an unknown call nor a record of a known one stands
-    pub item_bad : (item_at s i ≡ is.Bad)
+    pub item_bad : (item_at s i ≡ Err refusal.BadRecord)
         ↔ (((call : ℕ) → call ≤ 65535 → (call ≡ 0) ⊎ (18 < call) → ¬ Stands s i (encoded call))
         × ((call : ℕ) (args : List ℕ) (ps : List (ℕ × ℕ)) → Written call args ps → ¬ Stands s i (record_of call args ps)))
     item_bad = (
@@ -297,7 +297,10 @@ module _ (s : List ℕ) (small : (k : ℕ) → get_or s k 0 < 256) where
 
         by : (x : Item) → item_at s i ≡ x
             → (((call : ℕ) → call ≤ 65535 → (call ≡ 0) ⊎ (18 < call) → ¬ Stands s i (encoded call))
-            × ((call : ℕ) (args : List ℕ) (ps : List (ℕ × ℕ)) → Written call args ps → ¬ Stands s i (record_of call args ps))) → x ≡ is.Bad
-        by is.Bad e f = refl
-        by is.Unknown e f = absurd (none (found is.Unknown e unknown_not_bad) f)
-        by (is.Call r next) e f = absurd (none (found (is.Call r next) e (call_not_bad r next)) f)
+            × ((call : ℕ) (args : List ℕ) (ps : List (ℕ × ℕ)) → Written call args ps → ¬ Stands s i (record_of call args ps))) → x ≡ Err refusal.BadRecord
+        by (Ok (r, next)) e f = absurd (none (found (Ok (r, next)) e (call_not_bad r next)) f)
+        by (Err k) e f = go (item_told s i e)
+          where
+            go : (k ≡ refusal.Unknown) ⊎ (k ≡ refusal.BadRecord) → ◌≡◌ {A = Item} (Err k) (Err refusal.BadRecord)
+            go (inl u) = absurd (none (found (Err refusal.Unknown) (rw u at e) unknown_not_bad) f)
+            go (inr b) = rw b refl

@@ -1,12 +1,11 @@
 -- Numbers in unsigned LEB128 (`specs/Written.antt`): `number_at` reads what is so written, up to 65,535, wherever it stands, and reads
 -- nothing else: so only the shortest form.
 -- Assumes nothing.
-use Rattle.std.proofs.Common.{ℕ, zero, suc, ◌+◌, ◌-◌, ◌*◌, ◌/◌, ◌%◌, ◌≤◌, ◌<◌, ◌≡◌, refl, sym, ap, ◌∙◌, ◌↔◌, Bool, true, false, List, [], ◌∷◌, ◌++◌, add-one, arith, ltb-true, ltb-false, lt-ltb, le-ltb, ne_eqb, length, get_or, take, drop, length-append, take-append-drop, drop-cons, get_or-append-add, length-take-le, ltb, eqb}
+use Rattle.std.proofs.Common.{ℕ, zero, suc, ◌+◌, ◌-◌, ◌*◌, ◌/◌, ◌%◌, ◌≤◌, ◌<◌, ◌≡◌, refl, sym, ap, ◌∙◌, ◌↔◌, Bool, true, false, List, [], ◌∷◌, ◌++◌, add-one, arith, ltb-true, ltb-false, lt-ltb, le-ltb, ne_eqb, length, get_or, take, drop, length-append, take-append-drop, drop-cons, get_or-append-add, length-take-le, ltb, eqb, Some, None}
 use Rattle.std.proofs.Math.Decide.{dec_lt}
 use Rattle.std.proofs.lemmas.Bool.{eqb-false}
-use Rattle.records.specs.declared.Read.{Read}
-use Rattle.records.specs.declared.Read.TheVariants.{Number, Bad}
-use Rattle.records.specs.Number.{number_at, second, third, if_then_else}
+use Rattle.records.specs.Number.{number_at, second, third, if_then_else, Read}
+use Rattle.records.specs.Pair.{value_of, next_of}
 use Rattle.records.specs.Written.{encoded_by, encoded, Stands}
 
 -- ---- LEB128
@@ -57,11 +56,11 @@ byte b xs a j n e h = (omega (arith, length-append b (xs ++ a), length-append xs
 -- ---- what is written is read
 
 module _ (s : List ℕ) (i : ℕ) where
-  read_one : (v : ℕ) → v < 128 → i < length s → get_or s i 0 ≡ v → number_at s i ≡ Number v (i + 1)
+  read_one : (v : ℕ) → v < 128 → i < length s → get_or s i 0 ≡ v → number_at s i ≡ Some (v, i + 1)
   unfolding number_at
   read_one v h l e = rw (lt-ltb i (length s) l, e, lt-ltb v 128 h)
 
-  read_two : (a b : ℕ) → a < 128 → 0 < b → b < 128 → i + 1 < length s → get_or s i 0 ≡ a + 128 → get_or s (i + 1) 0 ≡ b → number_at s i ≡ Number (a + b * 128) (i + 2)
+  read_two : (a b : ℕ) → a < 128 → 0 < b → b < 128 → i + 1 < length s → get_or s i 0 ≡ a + 128 → get_or s (i + 1) 0 ≡ b → number_at s i ≡ Some (a + b * 128, i + 2)
   unfolding number_at second
   read_two a b h z k l e g =
       let w : a + 128 - 128 ≡ a = omega arith in
@@ -69,7 +68,7 @@ module _ (s : List ℕ) (i : ℕ) where
       rw (lt-ltb i (length s) (omega arith), e, le-ltb (a + 128) 128 (omega arith), lt-ltb (i + 1) (length s) l, g, ne_eqb b 0 (λ q. omega arith), lt-ltb b 128 k, w, n)
 
   read_three : (a b c : ℕ) → a < 128 → b < 128 → 0 < c → c ≤ 3 → i + 2 < length s → get_or s i 0 ≡ a + 128 → get_or s (i + 1) 0 ≡ b + 128 → get_or s (i + 2) 0 ≡ c
-      → number_at s i ≡ Number (a + b * 128 + c * 16384) (i + 3)
+      → number_at s i ≡ Some (a + b * 128 + c * 16384, i + 3)
   unfolding number_at second third
   read_three a b c h k z t l e g o =
       let w : a + 128 - 128 ≡ a = omega arith in
@@ -96,13 +95,13 @@ module _ (s : List ℕ) (i : ℕ) where
 
 -- the bytes of a number up to 65,535, wherever they stand, are read as that number, and what follows starts right after them
 pub number_there : (v : ℕ) → v ≤ 65535 → (before after : List ℕ)
-    → number_at (before ++ (encoded v ++ after)) (length before) ≡ Number v (length before + length (encoded v))
+    → number_at (before ++ (encoded v ++ after)) (length before) ≡ Some (v, length before + length (encoded v))
 number_there v h b a = by (dec_lt v 128) (dec_lt v 16384)
   where
-    one : v < 128 → number_at (b ++ ((v ∷ []) ++ a)) (length b) ≡ Number v (length b + 1)
+    one : v < 128 → number_at (b ++ ((v ∷ []) ++ a)) (length b) ≡ Some (v, length b + 1)
     one g = let t = byte b (v ∷ []) a 0 (length b) (omega arith) (omega arith) in read_one (b ++ ((v ∷ []) ++ a)) (length b) v g t.0 t.1
 
-    two : 128 ≤ v → v < 16384 → number_at (b ++ (((v % 128 + 128) ∷ (v / 128) ∷ []) ++ a)) (length b) ≡ Number v (length b + 2)
+    two : 128 ≤ v → v < 16384 → number_at (b ++ (((v % 128 + 128) ∷ (v / 128) ∷ []) ++ a)) (length b) ≡ Some (v, length b + 2)
     two g k =
         let xs = (v % 128 + 128) ∷ (v / 128) ∷ [] in
         let t = byte b xs a 0 (length b) (omega arith) (omega arith) in
@@ -110,7 +109,7 @@ number_there v h b a = by (dec_lt v 128) (dec_lt v 16384)
         let e : v % 128 + v / 128 * 128 ≡ v = omega arith in
         read_two (b ++ (xs ++ a)) (length b) (v % 128) (v / 128) (omega arith) (omega arith) (omega arith) u.0 t.1 u.1 ∙ rw e
 
-    three : 16384 ≤ v → number_at (b ++ (((v % 128 + 128) ∷ (v / 128 % 128 + 128) ∷ (v / 128 / 128) ∷ []) ++ a)) (length b) ≡ Number v (length b + 3)
+    three : 16384 ≤ v → number_at (b ++ (((v % 128 + 128) ∷ (v / 128 % 128 + 128) ∷ (v / 128 / 128) ∷ []) ++ a)) (length b) ≡ Some (v, length b + 3)
     three g =
         let xs = (v % 128 + 128) ∷ (v / 128 % 128 + 128) ∷ (v / 128 / 128) ∷ [] in
         let t = byte b xs a 0 (length b) (omega arith) (omega arith) in
@@ -119,25 +118,25 @@ number_there v h b a = by (dec_lt v 128) (dec_lt v 16384)
         let e : v % 128 + v / 128 % 128 * 128 + v / 128 / 128 * 16384 ≡ v = omega arith in
         read_three (b ++ (xs ++ a)) (length b) (v % 128) (v / 128 % 128) (v / 128 / 128) (omega arith) (omega arith) (omega arith) (omega arith) w.0 t.1 u.1 w.1 ∙ rw e
 
-    by : Dec (v < 128) → Dec (v < 16384) → number_at (b ++ (encoded v ++ a)) (length b) ≡ Number v (length b + length (encoded v))
+    by : Dec (v < 128) → Dec (v < 16384) → number_at (b ++ (encoded v ++ a)) (length b) ≡ Some (v, length b + length (encoded v))
     by (yes g) _ = rw (encoded_one v g) (one g)
     by (no g) (yes k) = rw (encoded_two v (omega arith) k) (two (omega arith) k)
     by (no g) (no k) = rw (encoded_three v (omega arith) h) (three (omega arith))
 
 -- the same of any bytes in which it stands
-pub number_stands : (s : List ℕ) (i v : ℕ) → v ≤ 65535 → Stands s i (encoded v) → number_at s i ≡ Number v (i + length (encoded v))
+pub number_stands : (s : List ℕ) (i v : ℕ) → v ≤ 65535 → Stands s i (encoded v) → number_at s i ≡ Some (v, i + length (encoded v))
 number_stands s i v h t = rw (t.whole, ← t.place) (number_there v h t.before t.after)
 
 -- ---- what is read was written
 
--- what a read finds, by the bytes from i on; every other is Bad
+-- what a read finds, by the bytes from i on; every other is None
 data Reads (s : List ℕ) (i : ℕ) : Read → Type 0 where
-  one : i < length s → get_or s i 0 < 128 → Reads s i (Number (get_or s i 0) (i + 1))
+  one : i < length s → get_or s i 0 < 128 → Reads s i (Some (get_or s i 0, i + 1))
   two : i + 1 < length s → 128 ≤ get_or s i 0 → 0 < get_or s (i + 1) 0 → get_or s (i + 1) 0 < 128
-      → Reads s i (Number (get_or s i 0 - 128 + get_or s (i + 1) 0 * 128) (i + 1 + 1))
+      → Reads s i (Some (get_or s i 0 - 128 + get_or s (i + 1) 0 * 128, i + 1 + 1))
   three : i + 1 + 1 < length s → 128 ≤ get_or s i 0 → 128 ≤ get_or s (i + 1) 0 → 0 < get_or s (i + 1 + 1) 0 → get_or s (i + 1 + 1) 0 ≤ 3
-      → Reads s i (Number (get_or s i 0 - 128 + (get_or s (i + 1) 0 - 128) * 128 + get_or s (i + 1 + 1) 0 * 16384) (i + 1 + 1 + 1))
-  bad : Reads s i Bad
+      → Reads s i (Some (get_or s i 0 - 128 + (get_or s (i + 1) 0 - 128) * 128 + get_or s (i + 1 + 1) 0 * 16384, i + 1 + 1 + 1))
+  bad : Reads s i None
 
 module _ (s : List ℕ) (i : ℕ) where
   reads_third : 128 ≤ get_or s i 0 → 128 ≤ get_or s (i + 1) 0 → Reads s i (third s (i + 1 + 1) (get_or s i 0 - 128 + (get_or s (i + 1) 0 - 128) * 128))
@@ -147,9 +146,9 @@ module _ (s : List ℕ) (i : ℕ) where
       by : (a b c : Bool) → ltb (i + 1 + 1) (length s) ≡ a → eqb (get_or s (i + 1 + 1) 0) 0 ≡ b → ltb 3 (get_or s (i + 1 + 1) 0) ≡ c
           → Reads s i
           (if_then_else a
-          (if_then_else b Bad
-          (if_then_else c Bad (Number (get_or s i 0 - 128 + (get_or s (i + 1) 0 - 128) * 128 + get_or s (i + 1 + 1) 0 * 16384) (i + 1 + 1 + 1))))
-          Bad)
+          (if_then_else b None
+          (if_then_else c None (Some (get_or s i 0 - 128 + (get_or s (i + 1) 0 - 128) * 128 + get_or s (i + 1 + 1) 0 * 16384, i + 1 + 1 + 1))))
+          None)
       by false b c e f g = bad
       by true true c e f g = bad
       by true false true e f g = bad
@@ -164,9 +163,9 @@ module _ (s : List ℕ) (i : ℕ) where
       by : (a b c : Bool) → ltb (i + 1) (length s) ≡ a → eqb (get_or s (i + 1) 0) 0 ≡ b → ltb (get_or s (i + 1) 0) 128 ≡ c
           → Reads s i
           (if_then_else a
-          (if_then_else b Bad
-          (if_then_else c (Number (get_or s i 0 - 128 + get_or s (i + 1) 0 * 128) (i + 1 + 1)) (third s (i + 1 + 1) (get_or s i 0 - 128 + (get_or s (i + 1) 0 - 128) * 128))))
-          Bad)
+          (if_then_else b None
+          (if_then_else c (Some (get_or s i 0 - 128 + get_or s (i + 1) 0 * 128, i + 1 + 1)) (third s (i + 1 + 1) (get_or s i 0 - 128 + (get_or s (i + 1) 0 - 128) * 128))))
+          None)
       by false b c e f g = bad
       by true true c e f g = bad
       by true false true e f g =
@@ -178,7 +177,7 @@ module _ (s : List ℕ) (i : ℕ) where
   reads = by (ltb i (length s)) (ltb (get_or s i 0) 128) refl refl
     where
       by : (a b : Bool) → ltb i (length s) ≡ a → ltb (get_or s i 0) 128 ≡ b
-          → Reads s i (if_then_else a (if_then_else b (Number (get_or s i 0) (i + 1)) (second s (i + 1) (get_or s i 0 - 128))) Bad)
+          → Reads s i (if_then_else a (if_then_else b (Some (get_or s i 0, i + 1)) (second s (i + 1) (get_or s i 0 - 128))) None)
       by false b e f = bad
       by true true e f = one (ltb-true i (length s) e) (ltb-true (get_or s i 0) 128 f)
       by true false e f = reads_second (ltb-false (get_or s i 0) 128 f)
@@ -210,17 +209,17 @@ module _ (s : List ℕ) (i : ℕ) (small : (k : ℕ) → get_or s k 0 < 256) whe
   next_byte : (k : ℕ) → k < length s → drop k s ≡ get_or s k 0 ∷ drop (k + 1) s
   next_byte k h = rw add-one (drop-cons s k 0 h)
 
-  back : (r : Read) → Reads s i r → (v next : ℕ) → r ≡ Number v next → Back s i v next
+  back : (r : Read) → Reads s i r → (v next : ℕ) → r ≡ Some (v, next) → Back s i v next
   back r bad v next e = absurd (let z : ◌≡◌ {A = ℕ} 0 1 = cc in omega arith)
   back r (one h k) v next e =
-      let q : get_or s i 0 ≡ v = cc in
-      let n : i + 1 ≡ next = cc in
+      let q : get_or s i 0 ≡ v = ap value_of e in
+      let n : i + 1 ≡ next = ap (λ (r : Read). next_of r 0) e in
       back_of s (get_or s i 0 ∷ []) (drop (i + 1) s) i v next (omega arith) (rw (← q) (encoded_one (get_or s i 0) k)) (omega arith) (sym n) (omega arith) (next_byte i h)
   back r (two h k z l) v next e =
       let a = get_or s i 0 in
       let b = get_or s (i + 1) 0 in
-      let q : a - 128 + b * 128 ≡ v = cc in
-      let n : i + 1 + 1 ≡ next = cc in
+      let q : a - 128 + b * 128 ≡ v = ap value_of e in
+      let n : i + 1 + 1 ≡ next = ap (λ (r : Read). next_of r 0) e in
       let x = small i in
       let f : v % 128 + 128 ≡ a = omega arith in
       let g : v / 128 ≡ b = omega arith in
@@ -230,8 +229,8 @@ module _ (s : List ℕ) (i : ℕ) (small : (k : ℕ) → get_or s k 0 < 256) whe
       let a = get_or s i 0 in
       let b = get_or s (i + 1) 0 in
       let c = get_or s (i + 1 + 1) 0 in
-      let q : a - 128 + (b - 128) * 128 + c * 16384 ≡ v = cc in
-      let n : i + 1 + 1 + 1 ≡ next = cc in
+      let q : a - 128 + (b - 128) * 128 + c * 16384 ≡ v = ap value_of e in
+      let n : i + 1 + 1 + 1 ≡ next = ap (λ (r : Read). next_of r 0) e in
       let x = small i in
       let y = small (i + 1) in
       let low = parts (a - 128) (b - 128 + c * 128) v (omega arith) (omega arith) in
@@ -244,19 +243,19 @@ module _ (s : List ℕ) (i : ℕ) (small : (k : ℕ) → get_or s k 0 < 256) whe
       (next_byte i (omega arith) ∙ ap (λ (y : List ℕ). a ∷ y) (next_byte (i + 1) (omega arith) ∙ ap (λ (y : List ℕ). b ∷ y) (next_byte (i + 1 + 1) h)))
 
   -- a number that is read is at most 65,535, and the bytes that were read are its own, in the shortest form
-  pub number_back : (v next : ℕ) → number_at s i ≡ Number v next → Back s i v next
+  pub number_back : (v next : ℕ) → number_at s i ≡ Some (v, next) → Back s i v next
   number_back v next e = back (number_at s i) (reads s i) v next e
 
   -- nothing is read exactly where the bytes of no number up to 65,535 stand
-  pub number_bad : (number_at s i ≡ Bad) ↔ ((v : ℕ) → v ≤ 65535 → ¬ Stands s i (encoded v))
+  pub number_bad : (number_at s i ≡ None) ↔ ((v : ℕ) → v ≤ 65535 → ¬ Stands s i (encoded v))
   number_bad = (λ e v h t. never v (sym (stands v h t) ∙ e), λ f. by (number_at s i) refl f)
     where
-      stands : (v : ℕ) → v ≤ 65535 → Stands s i (encoded v) → number_at s i ≡ Number v (i + length (encoded v))
+      stands : (v : ℕ) → v ≤ 65535 → Stands s i (encoded v) → number_at s i ≡ Some (v, i + length (encoded v))
       stands v h t = number_stands s i v h t
 
-      never : (v : ℕ) {n : ℕ} → Number v n ≡ Bad → ⊥
+      never : (v : ℕ) {n : ℕ} → ◌≡◌ {A = Read} (Some (v, n)) None → ⊥
       never v e = let z : ◌≡◌ {A = ℕ} 0 1 = cc in omega arith
 
-      by : (r : Read) → number_at s i ≡ r → ((v : ℕ) → v ≤ 65535 → ¬ Stands s i (encoded v)) → r ≡ Bad
-      by Bad e f = refl
-      by (Number v n) e f = let t = number_back v n e in absurd (f v t.small t.bytes)
+      by : (r : Read) → number_at s i ≡ r → ((v : ℕ) → v ≤ 65535 → ¬ Stands s i (encoded v)) → r ≡ None
+      by None e f = refl
+      by (Some (v, n)) e f = let t = number_back v n e in absurd (f v t.small t.bytes)

@@ -1,10 +1,8 @@
 -- Records (`specs/Written.antt`): `item_at` reads what is so written, wherever it stands, as that call with those arguments.
 -- Assumes nothing.
-use Rattle.std.proofs.Common.{ℕ, zero, suc, ◌+◌, ◌-◌, ◌*◌, ◌≤◌, ◌<◌, max, ◌≡◌, refl, sym, ap, ◌∙◌, ◌≢◌, ◌⊎◌, inl, inr, List, [], ◌∷◌, ◌++◌, append_assoc, arith, lt-ltb, le-ltb, eq-eqb, ne_eqb, length, get_or, drop, length-append, get_or-drop, drop-drop}
+use Rattle.std.proofs.Common.{ℕ, zero, suc, ◌+◌, ◌-◌, ◌*◌, ◌≤◌, ◌<◌, max, ◌≡◌, refl, sym, ap, ◌∙◌, ◌≢◌, ◌⊎◌, inl, inr, List, [], ◌∷◌, ◌++◌, append_assoc, arith, lt-ltb, le-ltb, eq-eqb, ne_eqb, length, get_or, drop, length-append, get_or-drop, drop-drop, Some, Ok, Err}
 use Rattle.std.proofs.Math.Decide.{ℕ_discrete}
-use Rattle.records.specs.declared.Read.TheVariants as read
-use Rattle.records.specs.declared.Skip.TheVariants as skip
-use Rattle.records.specs.declared.Item.TheVariants as is
+use Rattle.records.specs.declared.refusal.Refusal.TheVariants as refusal
 use Rattle.records.specs.Number.{number_at}
 use Rattle.records.specs.Pair.{value_at, next_at, name_at, text_at, pair_next}
 use Rattle.records.specs.Record.{asked, skip_at, count_of, pairs_of, number_if, pairs_at, item_at}
@@ -37,11 +35,11 @@ stands_rest xs ys w =
 
 module _ (s : List ℕ) where
   -- a number that stands there is read, and the rest stands after it
-  read_one : (i v : ℕ) (ys : List ℕ) → v ≤ 65535 → Stands s i (encoded v ++ ys) → number_at s i ≡ read.Number v (i + length (encoded v))
+  read_one : (i v : ℕ) (ys : List ℕ) → v ≤ 65535 → Stands s i (encoded v ++ ys) → number_at s i ≡ Some (v, i + length (encoded v))
   read_one i v ys h w = number_stands s i v h (stands_first (encoded v) ys w)
 
   -- so are numbers one after the other
-  read_all : (i : ℕ) (xs : List ℕ) → Low xs → Stands s i (encoded_all xs) → skip_at s i (length xs) ≡ skip.At (i + length (encoded_all xs))
+  read_all : (i : ℕ) (xs : List ℕ) → Low xs → Stands s i (encoded_all xs) → skip_at s i (length xs) ≡ Some (i + length (encoded_all xs))
   unfolding skip_at encoded_all
   read_all i [] h w = let e : i + 0 ≡ i = omega arith in rw e
   read_all i (x ∷ xs) h w =
@@ -51,7 +49,7 @@ module _ (s : List ℕ) where
 
 -- ---- a call number that is not known
 
-pub item_unknown : (s : List ℕ) (i call : ℕ) → call ≤ 65535 → (call ≡ 0) ⊎ (18 < call) → Stands s i (encoded call) → item_at s i ≡ is.Unknown
+pub item_unknown : (s : List ℕ) (i call : ℕ) → call ≤ 65535 → (call ≡ 0) ⊎ (18 < call) → Stands s i (encoded call) → item_at s i ≡ Err refusal.Unknown
 unfolding item_at
 item_unknown s i call h (inl e) w = rw (number_stands s i call h w, eq-eqb call 0 e)
 item_unknown s i call h (inr e) w = rw (number_stands s i call h w, ne_eqb call 0 (λ d. omega arith), lt-ltb 18 call e)
@@ -59,7 +57,7 @@ item_unknown s i call h (inr e) w = rw (number_stands s i call h w, ne_eqb call 
 -- ---- a pair
 
 module _ (s : List ℕ) (i name text : ℕ) (ys : List ℕ) (a : name ≤ 65535) (b : text ≤ 65535) (w : Stands s i (encoded name ++ (encoded text ++ ys))) where
-  second_read : number_at s (i + length (encoded name)) ≡ read.Number text (i + length (encoded name) + length (encoded text))
+  second_read : number_at s (i + length (encoded name)) ≡ Some (text, i + length (encoded name) + length (encoded text))
   second_read = read_one s (i + length (encoded name)) text ys b (stands_rest (encoded name) (encoded text ++ ys) w)
 
   -- a pair that stands there is read, and what follows it starts right after it
@@ -92,7 +90,7 @@ width (x ∷ xs) = length (encoded x)
 
 -- the k-th of n numbers, where xs are the ones from it on, and ys follow them
 record Arg (s : List ℕ) (i k n : ℕ) (xs ys : List ℕ) : Type 0 where
-  is : number_if s i k n ≡ read.Number (get_or xs 0 0) (i + width xs)
+  is : number_if s i k n ≡ Some (get_or xs 0 0, i + width xs)
   low : Low (drop 1 xs)
   left : length (drop 1 xs) ≡ n - (k + 1)
   bytes : width xs + length (encoded_all (drop 1 xs)) ≡ length (encoded_all xs)
@@ -123,7 +121,7 @@ flat_length (p ∷ ps) = omega (arith, flat_length ps)
 
 -- the pairs of a call start at `from`, and end where the record does
 record Pairs (s : List ℕ) (i call a b c : ℕ) (ps : List (ℕ × ℕ)) (from : ℕ) : Type 0 where
-  is : pairs_at s i call a b c ≡ is.Call (asked call a b c from (length ps)) (from + length (encoded_all (flat ps)))
+  is : pairs_at s i call a b c ≡ Ok (asked call a b c from (length ps), from + length (encoded_all (flat ps)))
   stands : Stands s from (encoded_all (flat ps))
   ends : from + length (encoded_all (flat ps)) ≡ i + length (encoded_all (pair_numbers call ps))
 
@@ -165,7 +163,7 @@ module _ (s : List ℕ) (i call a b c : ℕ) (ps : List (ℕ × ℕ)) (low : Low
 
 -- what is read there: the call with its arguments, 0 where it takes fewer, and its pairs, which stand at `from` up to the record's end
 pub record Called (s : List ℕ) (i call : ℕ) (args : List ℕ) (ps : List (ℕ × ℕ)) (from : ℕ) : Type 0 where
-  pub is : item_at s i ≡ is.Call (asked call (get_or args 0 0) (get_or args 1 0) (get_or args 2 0) from (length ps)) (i + length (record_of call args ps))
+  pub is : item_at s i ≡ Ok (asked call (get_or args 0 0) (get_or args 1 0) (get_or args 2 0) from (length ps), i + length (record_of call args ps))
   pub stands : Stands s from (encoded_all (flat ps))
   pub ends : from + length (encoded_all (flat ps)) ≡ i + length (record_of call args ps)
 

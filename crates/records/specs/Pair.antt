@@ -1,18 +1,16 @@
 -- An attribute pair of a record: a name and a text number, each a number of the record. Of a record that `item_at` takes, every one is there.
 -- Assumes nothing.
-use Rattle.std.specs.Prelude.{ℕ, List}
-use Rattle.records.specs.Number.{number_at}
-use Rattle.records.specs.declared.Read.{Read}
-use Rattle.records.specs.declared.Read.TheVariants.{Number, Bad}
+use Rattle.std.specs.Prelude.{ℕ, List, Some, None}
+use Rattle.records.specs.Number.{number_at, Read}
 
 -- the value of what was read at i, and what follows it; 0 and i itself where there is no number
 abbrev pub value_of : Read → ℕ
-value_of (Number v n) = v
-value_of Bad = 0
+value_of (Some (v, n)) = v
+value_of None = 0
 
 abbrev pub next_of : Read → ℕ → ℕ
-next_of (Number v n) i = n
-next_of Bad i = i
+next_of (Some (v, n)) i = n
+next_of None i = i
 
 unfoldable pub value_at : List ℕ → ℕ → ℕ
 value_at s i = value_of (number_at s i)

@@ -1,26 +1,18 @@
 -- What the agency relies on holds in each of its rounds, and its places are whole at the end.
 -- Assumes nothing.
-use Rattle.std.proofs.Common.{ℕ, zero, suc, ◌+◌, ◌-◌, ◌*◌, ◌<◌, ◌≤◌, ◌≡◌, sym, subst, Bool, true, false, cond, List, arith, sub-one, length}
+use Rattle.std.proofs.Common.{ℕ, zero, suc, ◌+◌, ◌-◌, ◌*◌, ◌<◌, ◌≤◌, ◌≡◌, sym, ◌∙◌, subst, Bool, true, false, cond, arith, sub-one, None, Option, Some}
+use Rattle.std.proofs.lemmas.Bool.{ltb-false}
 use Rattle.lent.specs.Mem.{slots}
 use Rattle.lent.specs.Room.{free_nodes}
-use Rattle.places.specs.Places.{Places, places_of, place_of}
-use Rattle.places.specs.declared.Found.{Found}
-use Rattle.places.specs.declared.Found.TheVariants.{At, Nothing}
-use Rattle.places.proofs.Laws.{of_whole}
+use Rattle.places.specs.Places.{Places, place_of}
 use Rattle.state.specs.Full.{Full, with_stack}
 use Rattle.standard.specs.Html.{is_html, current}
 use Rattle.standard.specs.Stack.{shorter}
-use Rattle.standard.specs.Adoption.{Turn, rounded, rounds, current_at, agency}
+use Rattle.standard.specs.Adoption.{Turn, rounded, rounds, current_at, agency, few_nodes}
 use Rattle.adopted.specs.Firm.{Firm}
 use Rattle.rounds.specs.Turns.{turn_of}
 use Rattle.adopted.proofs.FirmLaws.{Used, firm_held, held_firm, firm_rounded}
 use Rattle.adopted.proofs.Holds.{holds_cut}
-
-pub stack_fits : (h : List ℕ) (d : ℕ) {l : Places} {c k : ℕ} → Firm (places_of h d) l c k → d ≤ length h
-stack_fits h d w = of_whole h d w.stack
-
-pub list_fits : (h : List ℕ) (d : ℕ) {s : Places} {c k : ℕ} → Firm s (places_of h d) c k → d ≤ length h
-list_fits h d w = of_whole h d w.list
 
 module _ {s l : Places} {c : ℕ} where
   firm_room : {k : ℕ} (j : ℕ) → c + 4 * j ≤ 4096 → Firm s l c k → Firm s l c j
@@ -30,10 +22,10 @@ module _ {s l : Places} {c : ℕ} where
   pub firm_fewer : (j k : ℕ) → j ≤ k → Firm s l c k → Firm s l c j
   firm_fewer j k h w = firm_room j (omega (arith, w.room)) w
 
-  -- 32 free nodes are room for eight rounds
-  pub firm_free : (m : List ℕ) {a : ℕ} → a ≡ free_nodes m c → 32 ≤ a → Firm s l c 0 → Firm s l c 8
-  unfolding free_nodes slots
-  firm_free m ea h w = firm_room 8 (omega (arith, ea, h, w.room)) w
+-- where not few nodes are free, 32 at least, there is room for eight rounds
+pub firm_free : (f : Full) {b : Bool} → b ≡ few_nodes f → b ≡ false → Firm f.stack f.list f.nodes.used 0 → Firm f.stack f.list f.nodes.used 8
+unfolding few_nodes free_nodes slots
+firm_free f eb e w = firm_room 8 (omega (arith, ltb-false _ _ (sym eb ∙ e), w.room)) w
 
 firm_shorter : (s l : Places) (c k : ℕ) → Firm s l c k → Firm (shorter s) l c k
 unfolding shorter
@@ -60,10 +52,10 @@ firm_rounds f name (suc k) w = by (rounded f name).again (firm_rounds (rounded f
     by true r = r
     by false r = firm_fewer 0 k (omega arith) (firm_rounded f name k w)
 
-firm_current : (o : Found) (f : Full) (name : ℕ) → Firm f.stack f.list f.nodes.used 8 → Firm (current_at o f name).stack (current_at o f name).list (current_at o f name).nodes.used 0
+firm_current : (o : Option ℕ) (f : Full) (name : ℕ) → Firm f.stack f.list f.nodes.used 8 → Firm (current_at o f name).stack (current_at o f name).list (current_at o f name).nodes.used 0
 unfolding current_at with_stack
-firm_current Nothing f name w = firm_fewer 0 8 (omega arith) (firm_shorter f.stack f.list f.nodes.used 8 w)
-firm_current (At j) f name w = firm_rounds f name 8 w
+firm_current None f name w = firm_fewer 0 8 (omega arith) (firm_shorter f.stack f.list f.nodes.used 8 w)
+firm_current (Some j) f name w = firm_rounds f name 8 w
 
 pub firm_agency : (f y : Full) (name : ℕ) → y ≡ agency f name → Firm f.stack f.list f.nodes.used 8 → Firm y.stack y.list y.nodes.used 0
 unfolding agency

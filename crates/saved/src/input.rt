@@ -10,6 +10,7 @@ pub fn read_full<R: Read>(input: &mut R, buffer: &mut [u8]) -> io::Result<usize>
     ensures { IfOk result (λ n. n ≤ length buffer.new) }
 {
     let mut done = 0;
+    // A walk, not a count: each read says how far it came.
     while done < buffer.len() {
         let n = input.read(&mut buffer[done..])?;
         if n == 0 {

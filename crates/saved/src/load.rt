@@ -1,110 +1,71 @@
-// From words to a state.
-use crate::region;
+// From words to a state (docs/LAYOUT.md).
 use crate::region::Region;
 use state::{Context, Counts, Flags, Stack, State};
 
-// A sum of two numbers that are not large, else 0.
-pub fn sum(a: usize, b: usize) -> usize {
-    if a < 4294967296 {
-        if b < 4294967296 {
-            return a + b;
-        }
-    }
-    0
-}
+/// The words of the capacities and of the record: the places of the stack come after them.
+pub const RECORD: usize = 17;
 
-fn wide(b: u8) -> u16 {
-    b as u16
-}
-
-// Word i: 0 past the end.
+/// Word i of a saved state: 0 past its end.
 pub fn word(s: &[u8], i: usize) -> u16 {
     if i < s.len() / 2 {
-        return wide(s[i * 2]) % 256 + wide(s[i * 2 + 1]) % 256 * 256;
+        return u16::from_le_bytes([s[i * 2], s[i * 2 + 1]]);
     }
     0
 }
 
+/// The same as a count.
 pub fn number(s: &[u8], i: usize) -> usize {
-    word(s, i) as usize
+    usize::from(word(s, i))
 }
 
-// The places of the stack.
-fn handles(s: &[u8], from: usize, count: usize) -> [u16; 512] {
-    let mut h = [0u16; 512];
-    let mut k: usize = 0;
-    while k < 512 {
-        if k < count {
-            h[k] = word(s, sum(from, k));
-        }
-        k += 1;
-    }
-    h
-}
-
-// So many slots of a region, and the word after them.
+/// So many slots of a region, and no more than are lent, from the word `from` on; the answer is the word after them.
 pub fn slots(s: &[u8], from: usize, of: Region, mem: &mut [u8], count: usize) -> usize {
-    let total = region::words(of, count);
-    let mut k: usize = 0;
-    while k < total {
-        region::put(of, mem, k, word(s, sum(from, k)));
-        k += 1;
+    let total = of.words(count.min(of.slots(mem)));
+    for k in 0..total {
+        of.put(mem, k, word(s, from.saturating_add(k)));
     }
-    sum(from, total)
+    from.saturating_add(total)
 }
 
-// Places of a list.
-pub fn places(s: &[u8], from: usize, out: &mut [u16], count: usize) {
-    let total = lent::least(count, out.len());
-    let mut k: usize = 0;
-    while k < total {
-        put_place(out, k, word(s, sum(from, k)));
-        k += 1;
+/// So many numbers, and no more than there are places for, from the word `from` on; the answer is the word after them.
+pub fn places(s: &[u8], from: usize, out: &mut [u16], count: usize) -> usize {
+    let total = count.min(out.len());
+    for k in 0..total {
+        out[k] = word(s, from.saturating_add(k));
     }
+    from.saturating_add(total)
 }
 
-fn put_place(out: &mut [u16], k: usize, v: u16) {
-    if k < out.len() {
-        out[k] = v;
-    }
-}
-
-// The context from four words: anything but 0 in the first means that there is one.
-pub fn context(s: &[u8], i: usize) -> Context {
+/// The context from four words: anything but 0 in the first means that there is one.
+pub fn context(s: &[u8], i: usize) -> Option<Context> {
     if word(s, i) == 0 {
-        return Context::None;
+        return None;
     }
-    Context::Element {
-        space: word(s, sum(i, 1)),
-        name: word(s, sum(i, 2)),
-        mark: word(s, sum(i, 3)),
-    }
+    Some(Context {
+        space: word(s, i.saturating_add(1)),
+        name: word(s, i.saturating_add(2)),
+        mark: word(s, i.saturating_add(3)),
+    })
 }
 
-// The record: words 5 to 16, and the places of the stack from word 17 on.
+/// The record: words 5 to 16, and the places of the stack after them.
 pub fn record(s: &[u8]) -> State {
     let depth = number(s, 10);
-    let counts = Counts {
-        nodes: number(s, 5),
-        pieces: number(s, 8),
-        pairs: number(s, 9),
-        list: number(s, 6),
-        modes: number(s, 7),
-    };
-    let flags = Flags {
-        foster: number(s, 11),
-        head: number(s, 12),
-    };
-    let h = handles(s, 17, depth);
-    let stack = Stack {
-        handles: h,
-        depth: depth,
-    };
-    let x = context(s, 13);
+    let mut handles = [0u16; Stack::PLACES];
+    places(s, RECORD, &mut handles, depth);
     State {
-        stack: stack,
-        counts: counts,
-        flags: flags,
-        context: x,
+        stack: Stack { handles, depth },
+        counts: Counts {
+            nodes: number(s, 5),
+            pieces: number(s, 8),
+            pairs: number(s, 9),
+            list: number(s, 6),
+            modes: number(s, 7),
+        },
+        flags: Flags {
+            foster: number(s, 11),
+            head: number(s, 12),
+        },
+        context: context(s, 13),
     }
 }

@@ -1,230 +1,188 @@
 #![tactic(auto)]
-// One request on a saved state: the answer as text, and the state after it.
-ghost use Rattle.std.specs.Prelude.{◌≤◌};
-
-use queries::{Asked, body_elem, foreign, reset, tokenizer};
+// One request on a saved state: the answer as text, and the state after it (docs/LAYOUT.md).
+use crate::request::Request;
+use dump::page::Page;
+use lent::{Node, Pair, Piece};
+use queries::body_elem::body_elem;
+use queries::foreign::is_foreign;
+use queries::reset::reset_insertion_mode;
+use queries::tokenizer::tokenizer_state_for_context_elem;
+use records::call::Call;
+use records::refusal::Refusal;
 use saved::region::Region;
 use saved::{load, save};
-use state::State;
+use state::lent::{Lent, Seen};
+use state::{Stack, State};
 
-// What a request gave.
+pub mod request;
+
+// What a request gave: its answer, what is reported beside it, if anything, and the state after it. Of a run the records done are
+// reported where it was refused too, so an `Ok` doesn't hold them.
 #[derive(Clone, Copy)]
-pub struct Given {
-    pub answer: usize,
-    pub result: usize,
-    pub has: bool,
-    pub state: State,
-}
-
-// The words before each part of a saved state.
-fn after_stack(s: &[u8]) -> usize {
-    17 + lent::least(load::number(s, 10), 512)
+struct Given {
+    answer: Result<(), Refusal>,
+    reported: Option<usize>,
+    state: State,
 }
 
 fn byte(s: &[u8], i: usize) -> u8 {
-    if i < s.len() {
-        return s[i];
-    }
-    0
+    s.get(i).copied().unwrap_or(0)
 }
 
 // The lent regions from the words; the answer is how many words there were.
-fn fill(
-    s: &[u8],
-    nodes: &mut [u8],
-    list: &mut [u16],
-    modes: &mut [u16],
-    pieces: &mut [u8],
-    pairs: &mut [u8],
-) -> usize {
-    let a = after_stack(s);
-    let n = lent::least(load::number(s, 5), lent::room::free_nodes(nodes, 0));
-    let b = load::slots(s, a, Region::Nodes, nodes, n);
-    let l = lent::least(load::number(s, 6), list.len());
-    load::places(s, b, list, l);
-    let c = load::sum(b, l);
-    fill_rest(s, c, modes, pieces, pairs)
+fn fill(s: &[u8], lent: &mut Lent<'_>) -> usize {
+    let stack = load::RECORD + load::number(s, 10).min(Stack::PLACES);
+    let nodes = load::slots(s, stack, Region::Nodes, lent.nodes, load::number(s, 5));
+    let list = load::places(s, nodes, lent.list, load::number(s, 6));
+    let modes = load::places(s, list, lent.modes, load::number(s, 7));
+    let pieces = load::slots(s, modes, Region::Pieces, lent.pieces, load::number(s, 8));
+    load::slots(s, pieces, Region::Pairs, lent.pairs, load::number(s, 9))
 }
 
-fn fill_rest(s: &[u8], at: usize, modes: &mut [u16], pieces: &mut [u8], pairs: &mut [u8]) -> usize {
-    let m = lent::least(load::number(s, 7), modes.len());
-    load::places(s, at, modes, m);
-    let a = load::sum(at, m);
-    let p = lent::least(load::number(s, 8), lent::room::free_pieces(pieces, 0));
-    let b = load::slots(s, a, Region::Pieces, pieces, p);
-    let q = lent::least(load::number(s, 9), lent::room::free_pairs(pairs, 0));
-    load::slots(s, b, Region::Pairs, pairs, q)
+// A state check, after which that is the answer.
+fn checked(state: State, seen: Seen<'_>, then: Result<(), Refusal>) -> Given {
+    let answer = if edge::is_sound(state, seen) {
+        then
+    } else {
+        Err(Refusal::Unsound)
+    };
+    Given {
+        answer,
+        reported: None,
+        state,
+    }
 }
 
-// Request 1. A first word that is neither 0 nor 1 is refused, as a flag would be.
-fn begin_with(st: State, nodes: &mut [u8], modes: &mut [u16], rest: &[u8]) -> Given {
+// A first word that is neither 0 nor 1 is refused, as a flag would be.
+fn begun(lent: &mut Lent<'_>, rest: &[u8]) -> Result<State, Refusal> {
     if 1 < load::word(rest, 0) {
-        return Given {
-            answer: 2,
-            result: 0,
-            has: false,
-            state: st,
-        };
+        return Err(Refusal::Unknown);
     }
-    let x = load::context(rest, 0);
-    let c = begin::begin(st, nodes, modes, x);
-    let after = c.state;
-    Given {
-        answer: c.answer,
-        result: 0,
-        has: false,
-        state: after,
+    begin::begin(lent.nodes, lent.modes, load::context(rest, 0))
+}
+
+fn begin_with(state: State, lent: &mut Lent<'_>, rest: &[u8]) -> Given {
+    match begun(lent, rest) {
+        Ok(state) => Given {
+            answer: Ok(()),
+            reported: None,
+            state,
+        },
+        Err(e) => refused(e, state),
     }
 }
 
-// Requests 0, 2 and 3; there are none past 7.
-fn ask(
-    what: u8,
-    st: State,
-    nodes: &mut [u8],
-    list: &mut [u16],
-    modes: &mut [u16],
-    pieces: &mut [u8],
-    pairs: &mut [u8],
-    rest: &[u8],
-) -> Given {
-    if what == 2 {
-        let c = calls::call(st, nodes, list, modes, pieces, pairs, rest);
-        let after = c.state;
-        return Given {
-            answer: c.answer,
-            result: c.taken,
-            has: reports(byte(rest, 0), c.answer),
-            state: after,
-        };
-    }
-    if what == 3 {
-        let c = calls::run(st, nodes, list, modes, pieces, pairs, rest);
-        let after = c.state;
-        return Given {
-            answer: c.answer,
-            result: c.done,
-            has: true,
-            state: after,
-        };
-    }
+fn refused(e: Refusal, state: State) -> Given {
     Given {
-        answer: checked(what, edge::is_sound(st, nodes, list, modes, pieces, pairs)),
-        result: 0,
-        has: false,
-        state: st,
+        answer: Err(e),
+        reported: None,
+        state,
     }
 }
 
 // Calls 8 and 9, once they are done, report the nodes that they took.
-fn reports(call: u8, answer: usize) -> bool {
-    if answer != 0 {
-        return false;
+fn single(state: State, lent: &mut Lent<'_>, rest: &[u8]) -> Given {
+    let called = calls::call(state, lent, rest);
+    let call = Call::try_from(u16::from(byte(rest, 0)));
+    let reports = called.answer.is_ok() && matches!(call, Ok(Call::Adopt | Call::MisnestedA));
+    Given {
+        answer: called.answer,
+        reported: reports.then_some(called.taken),
+        state: called.state,
     }
-    if call == 8 {
-        return true;
-    }
-    call == 9
 }
 
-fn checked(what: u8, sound: bool) -> usize {
-    if !sound {
-        return 1;
+// A question changes nothing, and is told only where it is answered.
+fn told(answer: Result<usize, Refusal>, state: State) -> Given {
+    match answer {
+        Ok(value) => Given {
+            answer: Ok(()),
+            reported: Some(value),
+            state,
+        },
+        Err(e) => refused(e, state),
     }
-    if what == 0 {
-        return 0;
-    }
-    2
 }
 
-// Requests 4 and 5, with two words after them.
-fn low_question(
-    what: u8,
-    st: State,
-    nodes: &[u8],
-    list: &[u16],
-    modes: &[u16],
-    pieces: &[u8],
-    pairs: &[u8],
-    a: u16,
-    b: u16,
-) -> Asked {
-    if what == 4 {
-        return reset::reset_insertion_mode(st, nodes, list, modes, pieces, pairs);
-    }
-    foreign::is_foreign(st, nodes, list, modes, pieces, pairs, a, b)
-}
-
-// Requests 6 and 7.
-fn high_question(
-    what: u8,
-    st: State,
-    nodes: &[u8],
-    list: &[u16],
-    modes: &[u16],
-    pieces: &[u8],
-    pairs: &[u8],
-    a: u16,
-) -> Asked {
-    if what == 6 {
-        return body_elem::body_elem(st, nodes, list, modes, pieces, pairs);
-    }
-    tokenizer::tokenizer_state_for_context_elem(st, nodes, list, modes, pieces, pairs, a)
-}
-
-// Requests 4 to 7 change nothing.
-fn question(
-    what: u8,
-    st: State,
-    nodes: &[u8],
-    list: &[u16],
-    modes: &[u16],
-    pieces: &[u8],
-    pairs: &[u8],
-    rest: &[u8],
-) -> Asked {
+fn serve_on(byte: u8, state: State, lent: &mut Lent<'_>, rest: &[u8]) -> Given {
     let a = load::word(rest, 0);
     let b = load::word(rest, 1);
-    if what < 6 {
-        return low_question(what, st, nodes, list, modes, pieces, pairs, a, b);
+    match Request::try_from(byte) {
+        Ok(Request::Check) => checked(state, lent.seen(), Ok(())),
+        Ok(Request::Begin) => begin_with(state, lent, rest),
+        Ok(Request::Call) => single(state, lent, rest),
+        Ok(Request::Run) => {
+            let ran = calls::run(state, lent, rest);
+            Given {
+                answer: ran.answer,
+                reported: Some(ran.done),
+                state: ran.state,
+            }
+        }
+        Ok(Request::Reset) => told(
+            reset_insertion_mode(state, lent.seen()).map(|mode| usize::from(mode.0)),
+            state,
+        ),
+        Ok(Request::Foreign) => told(is_foreign(state, lent.seen(), a, b).map(usize::from), state),
+        Ok(Request::Body) => told(
+            body_elem(state, lent.seen()).map(|body| body.map_or(0, |n| usize::from(n.0))),
+            state,
+        ),
+        Ok(Request::Tokenizer) => told(
+            tokenizer_state_for_context_elem(state, lent.seen(), a).map(|next| next.number()),
+            state,
+        ),
+        Err(e) => checked(state, lent.seen(), Err(e)),
     }
-    high_question(what, st, nodes, list, modes, pieces, pairs, a)
 }
 
-fn is_question(what: u8) -> bool {
-    if what < 4 {
-        return false;
+fn digit(n: usize) -> u8 {
+    b'0' + (n % 10) as u8
+}
+
+// A number in decimal. By hand past five digits: of those the last five are written, their zeros too, and what the programs print may not change.
+fn put_decimal(n: usize, page: &mut Page<'_>) {
+    if n < 100000 {
+        return page.decimal(n);
     }
-    what <= 7
+    page.byte(digit(n / 10000));
+    page.byte(digit(n / 1000));
+    page.byte(digit(n / 100));
+    page.byte(digit(n / 10));
+    page.byte(digit(n));
 }
 
-// Only with answer 0 has it a result.
-fn answered(q: Asked, st: State) -> Given {
-    let answer = q.answer;
-    Given {
-        answer: answer,
-        result: q.value,
-        has: answer == 0,
-        state: st,
+fn put_line(label: &[u8], n: usize, page: &mut Page<'_>) {
+    page.bytes(label);
+    put_decimal(n, page);
+    page.byte(b'\n');
+}
+
+/// Answers a request on a saved state, and puts answer and state into `out`; how many bytes of it were written. The lent slices are as
+/// long as the capacities say.
+pub fn serve(s: &[u8], lent: &mut Lent<'_>, out: &mut [u8]) -> usize {
+    let state = load::record(s);
+    let words = fill(s, lent);
+    let at = words.saturating_add(words);
+    let rest = &s[at.saturating_add(1).min(s.len())..];
+    let given = serve_on(byte(s, at), state, lent, rest);
+    let mut page = Page::new(out);
+    put_line(
+        b"answer ",
+        records::refusal::answer(given.answer),
+        &mut page,
+    );
+    if let Some(n) = given.reported {
+        put_line(b"result ", n, &mut page);
     }
+    save::put_state(given.state, lent.seen(), &mut page);
+    page.byte(b'\n');
+    page.at
 }
 
-fn put_line(out: &mut [u8], at: usize, text: &[u8], v: usize) -> usize {
-    let a = save::put_text(out, at, text);
-    let b = save::put_decimal(out, a, v);
-    save::put(out, b, 10)
-}
-
-fn put_given(out: &mut [u8], answer: usize, res: usize, has: bool) -> usize {
-    let a = put_line(out, 0, b"answer ", answer);
-    if has {
-        return put_line(out, a, b"result ", res);
-    }
-    a
-}
-
-// The lent slices are as long as the capacities say. How many bytes of `out` were written.
-pub fn serve(
+// On what the capacities leave of each region. The slices come one by one: tried with a `Lent`, whose slices the borrow proof doesn't let
+// be shortened.
+fn serve_part(
     s: &[u8],
     nodes: &mut [u8],
     list: &mut [u16],
@@ -233,71 +191,31 @@ pub fn serve(
     pairs: &mut [u8],
     out: &mut [u8],
 ) -> usize {
-    let st = load::record(s);
-    let words = fill(s, nodes, list, modes, pieces, pairs);
-    let at = load::sum(words, words);
-    let what = byte(s, at);
-    let from = lent::least(load::sum(at, 1), s.len());
-    let rest = &s[from..];
-    let g = serve_on(what, st, nodes, list, modes, pieces, pairs, rest);
-    let after = g.state;
-    let a = put_given(out, g.answer, g.result, g.has);
-    let b = save::put_state(after, nodes, list, modes, pieces, pairs, out, a);
-    save::put(out, b, 10)
+    let node_bytes = (load::number(s, 0).min(Node::MOST) * 32 + 32).min(nodes.len());
+    let entries = load::number(s, 1).min(list.len());
+    let numbers = load::number(s, 2).min(modes.len());
+    let piece_bytes = (load::number(s, 3).min(Piece::MOST) * 4 + 4).min(pieces.len());
+    let pair_bytes = (load::number(s, 4).min(Pair::MOST) * 4).min(pairs.len());
+    let mut part = Lent {
+        nodes: &mut nodes[..node_bytes],
+        list: &mut list[..entries],
+        modes: &mut modes[..numbers],
+        pieces: &mut pieces[..piece_bytes],
+        pairs: &mut pairs[..pair_bytes],
+    };
+    serve(s, &mut part, out)
 }
 
-fn serve_on(
-    what: u8,
-    st: State,
-    nodes: &mut [u8],
-    list: &mut [u16],
-    modes: &mut [u16],
-    pieces: &mut [u8],
-    pairs: &mut [u8],
-    rest: &[u8],
-) -> Given {
-    if what == 1 {
-        return begin_with(st, nodes, modes, rest);
-    }
-    if is_question(what) {
-        let q = question(what, st, nodes, list, modes, pieces, pairs, rest);
-        return answered(q, st);
-    }
-    ask(what, st, nodes, list, modes, pieces, pairs, rest)
-}
-
-// The part of what is lent that a capacity leaves, and no more than there is.
-fn part(most: usize, len: usize) -> usize
-    ensures { result ≤ len }
-{
-    lent::least(most, len)
-}
-
-// The same with whole buffers: the first n bytes are the input, and the capacities in it say how much of each region is lent.
-pub fn serve_whole(
-    buffer: &[u8],
-    n: usize,
-    nodes: &mut [u8],
-    list: &mut [u16],
-    modes: &mut [u16],
-    pieces: &mut [u8],
-    pairs: &mut [u8],
-    out: &mut [u8],
-) -> usize {
-    let k = part(n, buffer.len());
-    let s = &buffer[..k];
-    let a = part(lent::least(load::number(s, 0), 4096) * 32 + 32, nodes.len());
-    let b = part(load::number(s, 1), list.len());
-    let c = part(load::number(s, 2), modes.len());
-    let d = part(lent::least(load::number(s, 3), 8192) * 4 + 4, pieces.len());
-    let e = part(lent::least(load::number(s, 4), 4096) * 4, pairs.len());
-    serve(
+/// The same with whole buffers: the first n bytes are the input, and the capacities in it say how much of each region is lent.
+pub fn serve_whole(buffer: &[u8], n: usize, lent: &mut Lent<'_>, out: &mut [u8]) -> usize {
+    let s = &buffer[..n.min(buffer.len())];
+    serve_part(
         s,
-        &mut nodes[..a],
-        &mut list[..b],
-        &mut modes[..c],
-        &mut pieces[..d],
-        &mut pairs[..e],
+        lent.nodes,
+        lent.list,
+        lent.modes,
+        lent.pieces,
+        lent.pairs,
         out,
     )
 }

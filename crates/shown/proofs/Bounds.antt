@@ -1,6 +1,6 @@
 -- How many lines the dump of a sound state has, how long they are, and that `tree_lines` goes down far enough.
 -- Assumes nothing.
-use Rattle.std.proofs.Common.{ℕ, zero, suc, ◌+◌, ◌*◌, ◌≤◌, ◌<◌, ◌≡◌, refl, ap, inl, inr, Bool, true, false, cond, List, [], ◌∷◌, ◌++◌, map, arith, length, length-append, eqb}
+use Rattle.std.proofs.Common.{ℕ, zero, suc, ◌+◌, ◌*◌, ◌≤◌, ◌<◌, ◌≡◌, refl, ap, inl, inr, Bool, true, false, cond, List, [], ◌∷◌, ◌++◌, map, arith, length, length-append, eqb, Option}
 use Rattle.theory.specs.Fn.{In}
 use Rattle.theory.specs.Pigeon.{Within}
 use Rattle.lent.specs.Mem.{field, KIND, TIE, COUNT, CONTENTS}
@@ -79,7 +79,7 @@ unfolding every
 every_same f g [] h = refl
 every_same f g (y ∷ ys) h = rw (h y (inl refl), every_same f g ys (λ x i. h x (inr i))) refl
 
-module _ {m ps qs stk fmt tms : List ℕ} {c v u size k s foster head : ℕ} {ctx : Context} (o : Sound m ps qs stk fmt tms c v u size k s foster head ctx) where
+module _ {m ps qs stk fmt tms : List ℕ} {c v u size k s foster head : ℕ} {ctx : Option Context} (o : Sound m ps qs stk fmt tms c v u size k s foster head ctx) where
   few_here : (l n : ℕ) → 1 < n → n ≤ c → length (cursors_here m l n) ≤ 17
   unfolding cursors_here
   few_here l n z h = by (eqb (field m n KIND) CONTENTS)

@@ -1,6 +1,6 @@
 -- The lines at the cursors of a tree are the bytes that document 01 gives for it.
 -- Assumes nothing.
-use Rattle.std.proofs.Common.{ℕ, zero, suc, ◌+◌, ◌-◌, ◌≤◌, ◌<◌, ◌≡◌, refl, ap, ◌∙◌, ◌⊎◌, inl, inr, List, [], ◌∷◌, map, arith, length, eq-eqb, ne_eqb, le-leb}
+use Rattle.std.proofs.Common.{ℕ, zero, suc, ◌+◌, ◌-◌, ◌≤◌, ◌<◌, ◌≡◌, refl, ap, ◌∙◌, ◌⊎◌, inl, inr, List, [], ◌∷◌, map, arith, length, eq-eqb, ne_eqb, le-leb, Option}
 use Rattle.std.proofs.lemmas.List.{map-append}
 use Rattle.std.proofs.lemmas.Bool.{lt-leb}
 use Rattle.names.specs.Text.{text}
@@ -75,7 +75,7 @@ module _ (m p q : List ℕ) where
 
 -- ---- the lines of a tree
 
-module _ {m ps qs stk fmt tms : List ℕ} {c v u size k s foster head : ℕ} {ctx : Context} (o : Sound m ps qs stk fmt tms c v u size k s foster head ctx) where
+module _ {m ps qs stk fmt tms : List ℕ} {c v u size k s foster head : ℕ} {ctx : Option Context} (o : Sound m ps qs stk fmt tms c v u size k s foster head ctx) where
   module _ (p q : List ℕ) where
     lines_here_lem : (l n : ℕ) → 1 < n → n ≤ c → (field m n KIND ≡ CONTENTS → 0 < l) → map (line_of m p q) (cursors_here m l n) ≡ lines_here m p q l n
     lines_here_lem l n z h d = by (thing o n z h).known

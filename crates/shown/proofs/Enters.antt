@@ -1,7 +1,7 @@
 -- From the lines of a node alone the next line is that of the first node below it, or else of what comes after it: for each kind of
 -- node, in a sound state.
 -- Assumes nothing.
-use Rattle.std.proofs.Common.{ℕ, zero, suc, ◌+◌, ◌-◌, ◌≤◌, ◌<◌, ◌≡◌, refl, sym, ap, ◌∙◌, ◌≢◌, Bool, true, false, List, [], ◌∷◌, arith, eq-eqb, ne_eqb}
+use Rattle.std.proofs.Common.{ℕ, zero, suc, ◌+◌, ◌-◌, ◌≤◌, ◌<◌, ◌≡◌, refl, sym, ap, ◌∙◌, ◌≢◌, Bool, true, false, List, [], ◌∷◌, arith, eq-eqb, ne_eqb, Option}
 use Rattle.std.proofs.Math.Decide.{ℕ_discrete}
 use Rattle.names.specs.Tag as tag
 use Rattle.theory.specs.Kids.{hd}
@@ -54,7 +54,7 @@ down_one : (l : ℕ) → l < 4096 → level_down l ≡ suc l
 unfolding level_down
 down_one l h = omega arith
 
-module _ {m ps qs stk fmt tms : List ℕ} {c v u size k s foster head : ℕ} {ctx : Context} (o : Sound m ps qs stk fmt tms c v u size k s foster head ctx) where
+module _ {m ps qs stk fmt tms : List ℕ} {c v u size k s foster head : ℕ} {ctx : Option Context} (o : Sound m ps qs stk fmt tms c v u size k s foster head ctx) where
   -- from the attributes of a template to the line of its contents
   into_template : (l n : ℕ) → 1 < n → n ≤ c → is_html m n tag.template ≡ true
       → next_line m (part_line n l (field m n COUNT)) ≡ head_line m (suc l) (field m n TIE)

@@ -1,6 +1,6 @@
 -- The tree of a sound state: what is right below a node stands there one beside the other, and what kinds of nodes there are.
 -- Assumes nothing.
-use Rattle.std.proofs.Common.{ℕ, zero, suc, ◌≤◌, ◌<◌, ◌≡◌, refl, sym, ◌∙◌, ◌≢◌, ◌⊎◌, inl, inr, Bool, true, false, List, [], ◌∷◌, arith, take}
+use Rattle.std.proofs.Common.{ℕ, zero, suc, ◌≤◌, ◌<◌, ◌≡◌, refl, sym, ◌∙◌, ◌≢◌, ◌⊎◌, inl, inr, Bool, true, false, List, [], ◌∷◌, arith, take, Option}
 use Rattle.std.proofs.Math.Bool.{false≢true}
 use Rattle.std.proofs.Math.Decide.{ℕ_discrete}
 use Rattle.names.specs.Tag as tag
@@ -46,7 +46,7 @@ pub record Thing (m : List ℕ) (n : ℕ) : Type 0 where
   pub few : field m n COUNT ≤ 16
   pub bare : field m n KIND ≢ ELEMENT → field m n COUNT ≡ 0
 
-module _ {m ps qs stk fmt tms : List ℕ} {c v u size k s foster head : ℕ} {ctx : Context} (o : Sound m ps qs stk fmt tms c v u size k s foster head ctx) where
+module _ {m ps qs stk fmt tms : List ℕ} {c v u size k s foster head : ℕ} {ctx : Option Context} (o : Sound m ps qs stk fmt tms c v u size k s foster head ctx) where
   kids : (p : ℕ) → 0 < p → p ≤ c → o.tree.children.kids p ≡ children m p
   kids p z h = children_are (forest o) p z h
 

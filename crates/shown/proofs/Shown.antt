@@ -2,7 +2,7 @@
 -- ends, after 17 lines for each node at most, and each line fits in 65,536 bytes. Each node that is in the document, but the document
 -- and contents, has its own line once.
 -- Assumes nothing.
-use Rattle.std.proofs.Common.{ℕ, ◌-◌, ◌*◌, ◌≤◌, ◌<◌, ◌≡◌, refl, sym, ◌∙◌, subst, ◌≢◌, inl, inr, ◌↔◌, Bool, true, false, List, [], ◌∷◌, map, arith, length}
+use Rattle.std.proofs.Common.{ℕ, ◌-◌, ◌*◌, ◌≤◌, ◌<◌, ◌≡◌, refl, sym, ◌∙◌, subst, ◌≢◌, inl, inr, ◌↔◌, Bool, true, false, List, [], ◌∷◌, map, arith, length, Option}
 use Rattle.std.proofs.Math.ListN.{length-map}
 use Rattle.names.specs.Tag as tag
 use Rattle.theory.specs.Fn.{In}
@@ -39,7 +39,7 @@ out_not x y (z ∷ xs) o (inr i) = out_not x y xs o.1 i
 
 -- ---- from the document down
 
-module _ {m ps qs stk fmt tms : List ℕ} {c v u size k s foster head : ℕ} {ctx : Context} (o : Sound m ps qs stk fmt tms c v u size k s foster head ctx) where
+module _ {m ps qs stk fmt tms : List ℕ} {c v u size k s foster head : ℕ} {ctx : Option Context} (o : Sound m ps qs stk fmt tms c v u size k s foster head ctx) where
   used : 1 ≤ c
   used = omega (arith, o.tree.top.two)
 

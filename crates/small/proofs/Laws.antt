@@ -1,9 +1,7 @@
 -- The cases of the calls that touch places and flags alone, as the code meets them, for any part of the state that they are not lent.
 -- Assumes nothing.
-use Rattle.std.proofs.Common.{ℕ, ◌-◌, ◌<◌, ◌≤◌, min, ◌≡◌, refl, sym, ap, ◌∙◌, Bool, true, false, ◌||◌, ◌⊎◌, inl, inr, List, arith, length, get_or, take, drop, length-append, take-append-drop, eqb, ltb, lt-ltb, le-ltb, eq-eqb, ne_eqb}
+use Rattle.std.proofs.Common.{ℕ, ◌-◌, ◌<◌, ◌≤◌, min, ◌≡◌, refl, sym, ap, ◌∙◌, Bool, true, false, ◌||◌, ◌⊎◌, inl, inr, List, arith, length, get_or, take, drop, length-append, take-append-drop, eqb, ltb, lt-ltb, le-ltb, eq-eqb, ne_eqb, None, Option, Some}
 use Rattle.places.specs.Places.{Places, places_of, pushed, cut, place_of}
-use Rattle.places.specs.declared.Found.{Found}
-use Rattle.places.specs.declared.Found.TheVariants.{At, Nothing}
 use Rattle.state.specs.declared.Core.{Core}
 use Rattle.state.specs.declared.Context.{Context}
 use Rattle.state.specs.Fields.{set_depth, set_counts, set_flags, set_nodes, set_list, set_modes, set_foster, set_head}
@@ -14,19 +12,18 @@ use Rattle.standard.specs.Small.{room, MARKER, marked, cleared_at, cleared, popp
 
 -- the places are as many as were lent
 pub room_of : (most : ℕ) (l : List ℕ) (k : ℕ) → room most (places_of l k) ≡ min (length l) most
-unfolding room places_of
+unfolding room
 room_of most l k = ap (λ (n : ℕ). min n most) (sym (length-append (take k l) (drop k l)) ∙ ap length (take-append-drop k l))
 
-pub cleared_found : (p : Places) (i : ℕ) {o : Found} → o ≡ place_of p MARKER → o ≡ At i → cut p i ≡ cleared_at (place_of p MARKER) p
+pub cleared_found : (p : Places) (i : ℕ) {o : Option ℕ} → o ≡ place_of p MARKER → o ≡ Some i → cut p i ≡ cleared_at (place_of p MARKER) p
 unfolding cleared_at
 cleared_found p i eo h = rw (sym eo ∙ h)
 
-pub cleared_none : (p : Places) {o : Found} → o ≡ place_of p MARKER → o ≡ Nothing → cut p 0 ≡ cleared_at (place_of p MARKER) p
+pub cleared_none : (p : Places) {o : Option ℕ} → o ≡ place_of p MARKER → o ≡ None → cut p 0 ≡ cleared_at (place_of p MARKER) p
 unfolding cleared_at
 cleared_none p eo h = rw (sym eo ∙ h)
 
 pub size_of : (l : List ℕ) (k : ℕ) → (places_of l k).size ≡ k
-unfolding places_of
 size_of l k = refl
 
 -- a count that is set to what it is
@@ -83,7 +80,7 @@ unmoded_no f h = rw (le-ltb 0 f.modes.size h)
 
 -- ---- the same from what the code holds
 
-module _ (s n l m p q : List ℕ) (x : Context) (c : Core) where
+module _ (s n l m p q : List ℕ) (x : Option Context) (c : Core) where
   pub list_put : (l' : List ℕ) (size : ℕ) (P : Places) {c' : Core} → places_of l' size ≡ P → c' ≡ set_list c size → full s c' x n l' m p q ≡ with_list (full s c x n l m p q) P
   unfolding with_list set_list set_counts
   list_put l' size P ep ec = rw (ec, ep)
@@ -108,9 +105,9 @@ module _ (s n l m p q : List ℕ) (x : Context) (c : Core) where
   marked_done l' size ek h ep ec =
       ap done (list_put l' size _ ep ec) ∙ marked_yes (full s c x n l m p q) (rw (size_of l c.counts.list, room_of 256 l c.counts.list, ← ek) h)
 
-  pub marked_full : {k : ℕ} → k ≡ min (length l) 256 → k ≤ c.counts.list → result_of 6 (full s c x n l m p q) ≡ marked (full s c x n l m p q)
+  pub marked_full : min (length l) 256 ≤ c.counts.list → result_of 6 (full s c x n l m p q) ≡ marked (full s c x n l m p q)
   unfolding room
-  marked_full ek h = marked_no (full s c x n l m p q) (rw (size_of l c.counts.list, room_of 256 l c.counts.list, ← ek) h)
+  marked_full h = marked_no (full s c x n l m p q) (rw (room_of 256 l c.counts.list) h)
 
   pub cleared_done : (l' : List ℕ) (size : ℕ) {c' : Core} → places_of l' size ≡ cleared_at (place_of (places_of l c.counts.list) MARKER) (places_of l c.counts.list)
       → c' ≡ set_list c size → result_of 0 (full s c' x n l' m p q) ≡ cleared (full s c x n l m p q)
@@ -141,8 +138,11 @@ module _ (s n l m p q : List ℕ) (x : Context) (c : Core) where
   unfolding headed with_flags set_head set_flags
   headed_done {c'} {on} h ec = rw (ec, le-ltb 1 on h)
 
-  pub mode_bad : {v : ℕ} → (v ≡ 0) ⊎ (21 < v) → result_of 2 (full s c x n l m p q) ≡ moded (full s c x n l m p q) v
-  mode_bad {v} h = moded_bad (full s c x n l m p q) v h
+  pub mode_zero : {v : ℕ} → v ≡ 0 → result_of 2 (full s c x n l m p q) ≡ moded (full s c x n l m p q) v
+  mode_zero {v} h = moded_bad (full s c x n l m p q) v (inl h)
+
+  pub mode_past : {v : ℕ} → 21 < v → result_of 2 (full s c x n l m p q) ≡ moded (full s c x n l m p q) v
+  mode_past {v} h = moded_bad (full s c x n l m p q) v (inr h)
 
   pub mode_done : (m' : List ℕ) (size : ℕ) {c' : Core} {k v : ℕ} → (v ≡ 0 → ⊥) → v ≤ 21 → k ≡ min (length m) 64 → c.counts.modes < k → places_of m' size ≡ pushed (places_of m c.counts.modes) v
       → c' ≡ set_modes c size → result_of 0 (full s c' x n l m' p q) ≡ moded (full s c x n l m p q) v
@@ -150,9 +150,9 @@ module _ (s n l m p q : List ℕ) (x : Context) (c : Core) where
   mode_done m' size {v = v} z g ek h ep ec =
       ap done (modes_put m' size _ ep ec) ∙ moded_yes (full s c x n l m p q) v z g (rw (size_of m c.counts.modes, room_of 64 m c.counts.modes, ← ek) h)
 
-  pub mode_full : {k v : ℕ} → (v ≡ 0 → ⊥) → v ≤ 21 → k ≡ min (length m) 64 → k ≤ c.counts.modes → result_of 6 (full s c x n l m p q) ≡ moded (full s c x n l m p q) v
+  pub mode_full : {v : ℕ} → (v ≡ 0 → ⊥) → v ≤ 21 → min (length m) 64 ≤ c.counts.modes → result_of 6 (full s c x n l m p q) ≡ moded (full s c x n l m p q) v
   unfolding room
-  mode_full {v = v} z g ek h = moded_no (full s c x n l m p q) v z g (rw (size_of m c.counts.modes, room_of 64 m c.counts.modes, ← ek) h)
+  mode_full {v = v} z g h = moded_no (full s c x n l m p q) v z g (rw (room_of 64 m c.counts.modes) h)
 
   pub unmode_done : (m' : List ℕ) (size : ℕ) {c' : Core} → 0 < c.counts.modes → places_of m' size ≡ cut (places_of m c.counts.modes) (c.counts.modes - 1) → c' ≡ set_modes c size
       → result_of 0 (full s c' x n l m' p q) ≡ unmoded (full s c x n l m p q)
@@ -164,5 +164,5 @@ module _ (s n l m p q : List ℕ) (x : Context) (c : Core) where
 
 -- the current node is the last entry
 pub current_of : (s : List ℕ) (d : ℕ) → 0 < d → current (places_of s d) ≡ get_or s (d - 1) 0
-unfolding current places_of
+unfolding current
 current_of s d h = rw (size_of s d) (at_of s d (d - 1) (omega arith))

@@ -1,33 +1,30 @@
 #![tactic(auto)]
-// The calls that touch places and flags alone: 5, 6, 14 to 18. Each says what it does to the whole state, for any part of it that it is
-// not lent.
-ghost use Rattle.std.specs.Prelude.{◌≡◌, List, ℕ, ◌<◌, ◌≤◌, length};
-ghost use Rattle.state.specs.declared.Context.{Context};
-ghost use Rattle.state.specs.Full.{full, result_of};
-ghost use Rattle.places.specs.Places.{places_of, place_of};
+// The calls that touch places and flags alone: 5, 6, 14 to 18.
+ghost use Rattle.std.specs.Prelude.{◌≡◌, ◌≤◌, length};
+ghost use Rattle.places.specs.Places.{Whole, places_of, place_of};
+ghost use Rattle.records.specs.Refusal.{answer_number};
+ghost use Rattle.state.specs.Builder.{SameLoans, full_of};
+ghost use Rattle.state.specs.Full.{result_of};
 ghost use Rattle.standard.specs.Small.{marked, cleared_at, cleared, popped, fostered, headed, moded, unmoded};
 
 use lent::Node;
-use places::Found;
-use state::{Core, Counts, Done};
+use records::refusal::Refusal;
+use state::Counts;
+use state::builder::Builder;
 
-// 5
-pub fn marker(core: Core, list: &mut [u16]) -> Done
-    requires { core.counts.list ≤ length list.old }
-    ensures { (s n m p q : List ℕ) (x : Context) → result_of result.answer (full s result.core x n list.new m p q) ≡ marked (full s core x n list.old m p q) }
+/// Call 5, a marker: 13.2.4.3, "insert a marker at the end of the list of active formatting elements". `PlacesFull` where the list has no room.
+#[tactic(auto, using(crate::proofs::Laws::marked_done, crate::proofs::Laws::marked_full))]
+pub fn marker(b: &mut Builder<'_>) -> Result<(), Refusal>
+    ensures loans { SameLoans b.old b.new }
+    ensures outcome { result_of (answer_number result) (full_of b.new) ≡ marked (full_of b.old) }
 {
-    let at = core.counts.list;
-    if at < lent::least(list.len(), Counts::LIST) {
-        let size = places::push(list, at, Node::MARKER);
-        return Done {
-            answer: 0,
-            core: core.with_list(size),
-        };
+    let at = b.core.counts.list;
+    if at < b.list.len().min(Counts::LIST) {
+        let size = places::push(b.list, at, Node::MARKER);
+        b.core = b.core.with_list(size);
+        return Ok(());
     }
-    Done {
-        answer: 6,
-        core: core,
-    }
+    Err(Refusal::PlacesFull)
 }
 
 fn cleared_to(list: &mut [u16], count: usize) -> usize
@@ -35,121 +32,94 @@ fn cleared_to(list: &mut [u16], count: usize) -> usize
     ensures { places_of list.new result ≡ cleared_at (place_of (places_of list.old count) 65535) (places_of list.old count) }
 {
     match places::find(list, count, Node::MARKER) {
-        Found::At(i) => places::cut_at(list, count, i),
-        Found::Nothing => places::cut_at(list, count, 0),
+        Some(i) => places::cut_at(list, count, i),
+        None => places::cut_at(list, count, 0),
     }
 }
 
-// 6
-pub fn clear(core: Core, list: &mut [u16]) -> Done
-    requires { core.counts.list ≤ length list.old }
-    ensures { (s n m p q : List ℕ) (x : Context) → result_of result.answer (full s result.core x n list.new m p q) ≡ cleared (full s core x n list.old m p q) }
+/// Call 6, clear: 13.2.4.3, "clear the list of active formatting elements up to the last marker".
+#[tactic(auto, using(crate::proofs::Laws::cleared_done))]
+pub fn clear(b: &mut Builder<'_>)
+    requires { Whole (full_of b.old).list }
+    ensures loans { SameLoans b.old b.new }
+    ensures outcome { result_of 0 (full_of b.new) ≡ cleared (full_of b.old) }
 {
-    let size = cleared_to(list, core.counts.list);
-    Done {
-        answer: 0,
-        core: core.with_list(size),
-    }
+    let size = cleared_to(b.list, b.core.counts.list);
+    b.core = b.core.with_list(size);
 }
 
-// 14
+/// Call 14, pop: 13.2.4.2. `NothingToDo` where only the root is open.
 #[tactic(auto, using(crate::proofs::Laws::popped_root, crate::proofs::Laws::popped_done))]
-pub fn pop(h: &mut [u16], core: Core) -> Done
-    requires { core.depth ≤ length h.old }
-    ensures { (n l m p q : List ℕ) (x : Context) → result_of result.answer (full h.new result.core x n l m p q) ≡ popped (full h.old core x n l m p q) }
+pub fn pop(b: &mut Builder<'_>) -> Result<(), Refusal>
+    requires { Whole (full_of b.old).stack }
+    ensures loans { SameLoans b.old b.new }
+    ensures outcome { result_of (answer_number result) (full_of b.new) ≡ popped (full_of b.old) }
 {
-    let depth = core.depth;
+    let depth = b.core.depth;
     if depth < 2 {
-        return Done {
-            answer: 3,
-            core: core,
-        };
+        return Err(Refusal::NothingToDo);
     }
-    let size = places::cut_at(h, depth, depth - 1);
-    Done {
-        answer: 0,
-        core: core.with_depth(size),
-    }
+    let size = places::cut_at(b.stack, depth, depth - 1);
+    b.core = b.core.with_depth(size);
+    Ok(())
 }
 
-// 15
-pub fn foster(core: Core, on: u16) -> Done
-    ensures { (s n l m p q : List ℕ) (x : Context) → result_of result.answer (full s result.core x n l m p q) ≡ fostered (full s core x n l m p q) on }
+/// Call 15, foster parenting is enabled (1) or disabled (0): 13.2.6.1. `Unknown` for any other flag.
+#[tactic(auto, using(crate::proofs::Laws::fostered_bad, crate::proofs::Laws::fostered_done))]
+pub fn foster(b: &mut Builder<'_>, on: u16) -> Result<(), Refusal>
+    ensures loans { SameLoans b.old b.new }
+    ensures outcome { result_of (answer_number result) (full_of b.new) ≡ fostered (full_of b.old) on }
 {
     if 1 < on {
-        return Done {
-            answer: 2,
-            core: core,
-        };
+        return Err(Refusal::Unknown);
     }
-    Done {
-        answer: 0,
-        core: core.with_foster(on as usize),
-    }
+    b.core = b.core.with_foster(usize::from(on));
+    Ok(())
 }
 
-// 18
-pub fn head(core: Core, on: u16) -> Done
-    ensures { (s n l m p q : List ℕ) (x : Context) → result_of result.answer (full s result.core x n l m p q) ≡ headed (full s core x n l m p q) on }
+/// Call 18, the head element pointer is set (1) or null (0): 13.2.4.4. `Unknown` for any other flag.
+#[tactic(auto, using(crate::proofs::Laws::headed_bad, crate::proofs::Laws::headed_done))]
+pub fn head(b: &mut Builder<'_>, on: u16) -> Result<(), Refusal>
+    ensures loans { SameLoans b.old b.new }
+    ensures outcome { result_of (answer_number result) (full_of b.new) ≡ headed (full_of b.old) on }
 {
     if 1 < on {
-        return Done {
-            answer: 2,
-            core: core,
-        };
+        return Err(Refusal::Unknown);
     }
-    Done {
-        answer: 0,
-        core: core.with_head(on as usize),
-    }
+    b.core = b.core.with_head(usize::from(on));
+    Ok(())
 }
 
-// 16
-pub fn push_mode(core: Core, modes: &mut [u16], v: u16) -> Done
-    requires { core.counts.modes ≤ length modes.old }
-    ensures { (s n l p q : List ℕ) (x : Context) → result_of result.answer (full s result.core x n l modes.new p q) ≡ moded (full s core x n l modes.old p q) v }
+/// Call 16, a template insertion mode, 1 to 21, is pushed: 13.2.4.1. `Unknown` for any other number, `PlacesFull` where there is no room.
+#[tactic(auto, using(crate::proofs::Laws::mode_zero, crate::proofs::Laws::mode_past, crate::proofs::Laws::mode_done, crate::proofs::Laws::mode_full))]
+pub fn push_mode(b: &mut Builder<'_>, v: u16) -> Result<(), Refusal>
+    ensures loans { SameLoans b.old b.new }
+    ensures outcome { result_of (answer_number result) (full_of b.new) ≡ moded (full_of b.old) v }
 {
-    if v == 0 {
-        return Done {
-            answer: 2,
-            core: core,
-        };
+    if v == 0 || 21 < v {
+        return Err(Refusal::Unknown);
     }
-    if 21 < v {
-        return Done {
-            answer: 2,
-            core: core,
-        };
+    let at = b.core.counts.modes;
+    if at < b.modes.len().min(Counts::MODES) {
+        let size = places::push(b.modes, at, v);
+        b.core = b.core.with_modes(size);
+        return Ok(());
     }
-    let at = core.counts.modes;
-    if at < lent::least(modes.len(), Counts::MODES) {
-        let size = places::push(modes, at, v);
-        return Done {
-            answer: 0,
-            core: core.with_modes(size),
-        };
-    }
-    Done {
-        answer: 6,
-        core: core,
-    }
+    Err(Refusal::PlacesFull)
 }
 
-// 17
-pub fn pop_mode(core: Core, modes: &mut [u16]) -> Done
-    requires { core.counts.modes ≤ length modes.old }
-    ensures { (s n l p q : List ℕ) (x : Context) → result_of result.answer (full s result.core x n l modes.new p q) ≡ unmoded (full s core x n l modes.old p q) }
+/// Call 17, the current template insertion mode is popped: 13.2.4.1. `NothingToDo` where there is none.
+#[tactic(auto, using(crate::proofs::Laws::unmode_done, crate::proofs::Laws::unmode_none))]
+pub fn pop_mode(b: &mut Builder<'_>) -> Result<(), Refusal>
+    requires { Whole (full_of b.old).modes }
+    ensures loans { SameLoans b.old b.new }
+    ensures outcome { result_of (answer_number result) (full_of b.new) ≡ unmoded (full_of b.old) }
 {
-    let at = core.counts.modes;
+    let at = b.core.counts.modes;
     if 0 < at {
-        let size = places::cut_at(modes, at, at - 1);
-        return Done {
-            answer: 0,
-            core: core.with_modes(size),
-        };
+        let size = places::cut_at(b.modes, at, at - 1);
+        b.core = b.core.with_modes(size);
+        return Ok(());
     }
-    Done {
-        answer: 3,
-        core: core,
-    }
+    Err(Refusal::NothingToDo)
 }

@@ -1,7 +1,7 @@
 -- The contract of `sound::sound`, `Says (Sound ..) r`, in both directions: the answer r is yes exactly where the state is sound,
 -- and there is only one answer that the contract allows.
 -- Assumes nothing.
-use Rattle.std.proofs.Common.{◌≡◌, refl, sym, Bool, true, false, ◌↔◌, List, ℕ}
+use Rattle.std.proofs.Common.{◌≡◌, refl, sym, Bool, true, false, ◌↔◌, List, ℕ, Option}
 use Rattle.theory.specs.Says.{Says}
 use Rattle.state.specs.declared.Context.{Context}
 use Rattle.sound.specs.Sound.{Sound}
@@ -19,7 +19,7 @@ same_of : {P : Type 0} (a b : Bool) → Says P a → Says P b → a ≡ b
 same_of true b s t = sym (yes_of b t (s.good refl))
 same_of false b s t = sym (no_of b t (s.bad refl))
 
-module _ {m p q l f t : List ℕ} {c v u d k s foster head : ℕ} {x : Context} {r : Bool} (said : Says (Sound m p q l f t c v u d k s foster head x) r) where
+module _ {m p q l f t : List ℕ} {c v u d k s foster head : ℕ} {x : Option Context} {r : Bool} (said : Says (Sound m p q l f t c v u d k s foster head x) r) where
   -- yes: the state is sound
   pub sound_yes : r ≡ true → Sound m p q l f t c v u d k s foster head x
   sound_yes = said.good

@@ -1,7 +1,7 @@
 -- What a sound state is, one theorem for each rule of the paragraph "Sound means" that is not in `Reading`: each says its rule of
 -- the fields of the lent memory and of the entries of the places.
 -- Assumes nothing.
-use Rattle.std.proofs.Common.{◌≡◌, sym, ◌∙◌, ◌≢◌, ◌⊎◌, inl, inr, ◌↔◌, List, [], ◌∷◌, true, ℕ, suc, ◌+◌, ◌*◌, ◌≤◌, ◌<◌, arith, length, take, length-take, get_or-take}
+use Rattle.std.proofs.Common.{◌≡◌, sym, ◌∙◌, ◌≢◌, ◌⊎◌, inl, inr, ◌↔◌, List, [], ◌∷◌, true, ℕ, suc, ◌+◌, ◌*◌, ◌≤◌, ◌<◌, arith, length, take, length-take, get_or-take, Option, Some}
 use Rattle.std.proofs.Math.Decide.{ℕ_discrete, dec_lt}
 use Rattle.lent.specs.Mem.{field, up, KIND, PARENT, FIRST, LAST, TIE, SPACE, NAME, MARK, START, COUNT, PIECE, END, DOCUMENT, ELEMENT, TEXT, COMMENT, CONTENTS}
 use Rattle.lent.specs.Tree.{links}
@@ -18,7 +18,6 @@ use Rattle.nodes.specs.Nodes.{Kind, Template, Tag, name_of}
 use Rattle.texts.specs.Texts.{after, pieces_of, is_none, is_walk}
 use Rattle.texts.specs.Words.{Words}
 use Rattle.state.specs.declared.Context.{Context}
-use Rattle.state.specs.declared.Context.TheVariants.{Element}
 use Rattle.sound.specs.Sound.{Sound, Allowed, MARKER}
 
 -- what each used node has of contents: an HTML `template` one node of its own, contents the `template` that they are of, and any
@@ -113,11 +112,11 @@ module _ {m p : List ℕ} {c v : ℕ} (r : Words m p c v) where
       same k a b j (no _) (yes e) = absurd (r.one k n y a e h j i)
       same k a b j (no d) (no e) = omega arith
 
-told : (x : Context) → Allowed x → (ns name mark : ℕ) → x ≡ Element ns name mark → Tag ns name mark
+told : (x : Option Context) → Allowed x → (ns name mark : ℕ) → x ≡ Some (record { space = ns; name = name; mark = mark }) → Tag ns name mark
 unfolding Allowed
 told x a ns name mark e = rw e at a
 
-module _ {m p q l f t : List ℕ} {c v u d k s foster head : ℕ} {context : Context} (w : Sound m p q l f t c v u d k s foster head context) where
+module _ {m p q l f t : List ℕ} {c v u d k s foster head : ℕ} {context : Option Context} (w : Sound m p q l f t c v u d k s foster head context) where
   -- ---- nodes
 
   -- node 1 is a document, and no other used node is
@@ -222,7 +221,7 @@ module _ {m p q l f t : List ℕ} {c v u d k s foster head : ℕ} {context : Con
   modes_allowed = w.modes.mode
 
   -- both flags are off or on, and the fragment context has what an element may have
-  pub settings_allowed : (foster ≤ 1) × (head ≤ 1) × ((ns name mark : ℕ) → context ≡ Element ns name mark → Tag ns name mark)
+  pub settings_allowed : (foster ≤ 1) × (head ≤ 1) × ((ns name mark : ℕ) → context ≡ Some (record { space = ns; name = name; mark = mark }) → Tag ns name mark)
   settings_allowed = (w.settings.fostering, w.settings.seen, λ ns name mark e. told context w.settings.context ns name mark e)
 
   -- an element's attributes are at most 16 used pairs, and no name stands among them twice

@@ -3,7 +3,7 @@
 -- The places are l (open elements), f (formatting list) and t (template modes), and d, k and s are how many of them are used.
 -- Nodes and pieces are numbered from 1, and 0 is none; pairs and places are numbered from 0. What lies past the counts is not looked at.
 -- Assumes nothing.
-use Rattle.std.specs.Prelude.{◌≡◌, true, ◌≢◌, List, ℕ, ◌+◌, ◌*◌, ◌≤◌, ◌<◌, length, take}
+use Rattle.std.specs.Prelude.{◌≡◌, true, ◌≢◌, List, ℕ, ◌+◌, ◌*◌, ◌≤◌, ◌<◌, length, take, None, Option, Some}
 use Rattle.lent.specs.Mem.{field, up, KIND, PARENT, SPACE, NAME, DOCUMENT, ELEMENT}
 use Rattle.names.specs.Numbers.{is_name}
 use Rattle.names.specs.Sets.{is_in, Formatting}
@@ -15,7 +15,6 @@ use Rattle.links.specs.Links.{Children}
 use Rattle.nodes.specs.Nodes.{Kind, Tag, name_of}
 use Rattle.texts.specs.Words.{Words}
 use Rattle.state.specs.declared.Context.{Context}
-use Rattle.state.specs.declared.Context.TheVariants.{None, Element}
 
 -- ---- counts
 
@@ -107,19 +106,19 @@ pub record Modes (t : List ℕ) (s : ℕ) : Type 0 where
   pub mode : (i : ℕ) → i < s → (1 ≤ at t i) × (at t i ≤ 21)
 
 -- The fragment context is none, or has a namespace, a name and a mark that an element may have.
-unfoldable pub Allowed : Context → Type 0
+unfoldable pub Allowed : Option Context → Type 0
 Allowed None = Unit {0}
-Allowed (Element ns name mark) = Tag ns name mark
+Allowed (Some x) = Tag x.space x.name x.mark
 
 -- Foster parenting and head seen are each off or on, and the context is allowed.
-pub record Settings (foster head : ℕ) (x : Context) : Type 0 where
+pub record Settings (foster head : ℕ) (x : Option Context) : Type 0 where
   pub fostering : foster ≤ 1
   pub seen : head ≤ 1
   pub context : Allowed x
 
 -- ---- all of it
 
-pub record Sound (m p q l f t : List ℕ) (c v u d k s foster head : ℕ) (x : Context) : Type 0 where
+pub record Sound (m p q l f t : List ℕ) (c v u d k s foster head : ℕ) (x : Option Context) : Type 0 where
   pub sizes : Sizes m p q c v u
   pub places : Places l f t d k s
   pub tree : Tree m q l c u d

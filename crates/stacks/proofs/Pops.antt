@@ -1,11 +1,12 @@
 -- Pops as cuts: what "while" and "until" leave of a stack, and that closing an element, implied end tags first, is one cut.
 -- Assumes nothing.
-use Rattle.std.proofs.Common.{ℕ, zero, suc, ◌+◌, ◌-◌, ◌<◌, ◌≤◌, ◌≡◌, refl, sym, ap, ◌∙◌, Bool, true, false, cond, List, append_assoc, arith, sub-one, length, get_or, take, replicate, length-take-le, get_or-take, take-take}
+use Rattle.std.proofs.Common.{ℕ, zero, suc, ◌+◌, ◌-◌, ◌<◌, ◌≤◌, ◌≡◌, refl, sym, ap, ◌∙◌, Bool, true, false, cond, not, Some, List, append_assoc, arith, sub-one, length, get_or, take, replicate, length-take-le, get_or-take, take-take}
 use Rattle.std.proofs.Math.Decide.{dec_lt}
 use Rattle.std.proofs.Math.ListN.{replicate-append-replicate}
 use Rattle.std.proofs.Math.Seq.{take-length}
-use Rattle.places.specs.Places.{Places, Whole, at, cut}
+use Rattle.places.specs.Places.{Places, Whole, at, cut, down, never}
 use Rattle.places.proofs.Laws.{places_eq, Last}
+use Rattle.standard.specs.Formatting.{after}
 use Rattle.standard.specs.Html.{current}
 use Rattle.standard.specs.Stack.{shorter, while_top, popped_while, until_top, popped_until}
 
@@ -88,6 +89,17 @@ while_is p s w =
     ap (λ (t : Places). while_top p t s.size) (sym (cut_all s w))
     ∙ while_cut p s s.size (omega (arith, w.all))
     ∙ ap (λ (k : ℕ). cut s (stays p s.held k)) w.all
+
+-- what stays is all up to the last entry that has not p
+pub stays_is : (p : ℕ → Bool) (xs : List ℕ) (k : ℕ) → after (down (λ n. not (p n)) never xs k) ≡ stays p xs k
+unfolding down stays after
+stays_is p xs zero = refl
+stays_is p xs (suc k) = by (p (get_or xs k 0)) (stays_is p xs k)
+  where
+    by : (b : Bool) → after (down (λ n. not (p n)) never xs k) ≡ stays p xs k
+        → after (cond (not b) (Some k) (down (λ n. not (p n)) never xs k)) ≡ cond b (stays p xs k) (suc k)
+    by true e = e
+    by false e = omega arith
 
 -- ---- until
 

@@ -1,14 +1,12 @@
 -- The calls 10 to 13 never pop the root: on a whole stack whose entry 0 is an HTML html, at least that entry is left.
 -- Assumes nothing.
-use Rattle.std.proofs.Common.{ℕ, zero, suc, ◌<◌, ◌≤◌, ◌≡◌, refl, sym, ap, ◌∙◌, Bool, true, false, cond, not, ◌||◌, List, arith, length, get_or, length-take-le, get_or-take, eqb, eq-eqb}
+use Rattle.std.proofs.Common.{ℕ, zero, suc, ◌<◌, ◌≤◌, ◌≡◌, refl, sym, ap, ◌∙◌, Bool, true, false, cond, not, ◌||◌, List, arith, length, get_or, length-take-le, get_or-take, eqb, eq-eqb, None, Option, Some}
 use Rattle.std.proofs.Math.Decide.{dec_lt}
 use Rattle.names.specs.Space as space
 use Rattle.names.specs.Tag as tag
 use Rattle.names.specs.Numbers.{is_name}
 use Rattle.names.specs.Sets.{is_in, cursory, thorough_adds, Special, ButtonScope, TableScope}
 use Rattle.places.specs.Places.{Places, Whole, cut}
-use Rattle.places.specs.declared.Found.{Found}
-use Rattle.places.specs.declared.Found.TheVariants.{At, Nothing}
 use Rattle.state.specs.Full.{Full, refused, done, with_stack, with_list}
 use Rattle.standard.specs.Html.{is_html}
 use Rattle.standard.specs.Small.{cleared}
@@ -44,7 +42,7 @@ unfolding implied_set cursory thorough_adds
 html_unlisted zero = refl
 html_unlisted (suc k) = refl
 
-found_none : is_found Nothing ≡ true → ⊥
+found_none : is_found None ≡ true → ⊥
 unfolding is_found
 found_none e = let z : ◌≡◌ {A = ℕ} 0 1 = cc in omega arith
 
@@ -97,9 +95,9 @@ module _ (m : List ℕ) (s : Places) (r : Rooted m s) where
   unfolding in_scope
   p_lower = by (in_scope ButtonScope (named m tag.p) m s) refl
     where
-      by : (o : Found) → in_scope ButtonScope (named m tag.p) m s ≡ o → is_found o ≡ true → Lower s (without_p m s)
-      by Nothing e h = absurd (found_none h)
-      by (At i) e h =
+      by : (o : Option ℕ) → in_scope ButtonScope (named m tag.p) m s ≡ o → is_found o ≡ true → Lower s (without_p m s)
+      by None e h = absurd (found_none h)
+      by (Some i) e h =
           later (named m tag.p) i
           (λ y. let z : tag.p ≡ tag.html = other m (get_or s.held 0 0) tag.p r.root y in omega arith)
           (last_found (named m tag.p) (is_of ButtonScope m) s i e) (p_cut m s i r.whole e)
@@ -108,13 +106,13 @@ module _ (m : List ℕ) (s : Places) (r : Rooted m s) where
   unfolding in_scope
   cell_lower = by (in_scope TableScope (is_cell m) m s) refl
     where
-      by : (o : Found) → in_scope TableScope (is_cell m) m s ≡ o → is_found o ≡ true → Lower s (without_cell m s)
-      by Nothing e h = absurd (found_none h)
-      by (At i) e h =
+      by : (o : Option ℕ) → in_scope TableScope (is_cell m) m s ≡ o → is_found o ≡ true → Lower s (without_cell m s)
+      by None e h = absurd (found_none h)
+      by (Some i) e h =
           later (is_cell m) i (cell_other m (get_or s.held 0 0) r.root) (last_found (is_cell m) (is_of TableScope m) s i e)
           (cell_cut m s i r.whole e)
 
-  end_none : (name : ℕ) → in_scope Special (named m name) m s ≡ Nothing → end_tag m s name ≡ s
+  end_none : (name : ℕ) → in_scope Special (named m name) m s ≡ None → end_tag m s name ≡ s
   unfolding end_tag ended_at
   end_none name e = rw e
 
@@ -122,9 +120,9 @@ module _ (m : List ℕ) (s : Places) (r : Rooted m s) where
   unfolding in_scope
   end_lower name b = by (in_scope Special (named m name) m s) refl
     where
-      by : (o : Found) → in_scope Special (named m name) m s ≡ o → Lower s (end_tag m s name)
-      by Nothing e = record { left = s.size; some = r.some; most = omega arith; is = end_none name e ∙ sym (cut_all s r.whole) }
-      by (At i) e =
+      by : (o : Option ℕ) → in_scope Special (named m name) m s ≡ o → Lower s (end_tag m s name)
+      by None e = record { left = s.size; some = r.some; most = omega arith; is = end_none name e ∙ sym (cut_all s r.whole) }
+      by (Some i) e =
           later (named m name) i
           (λ y. not_html name b (other m (get_or s.held 0 0) name r.root y))
           (last_found (named m name) (is_of Special m) s i e) (end_cut m s i r.whole name e)

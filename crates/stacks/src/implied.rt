@@ -1,87 +1,83 @@
 // Call 13: generate implied end tags (13.2.6.3).
-ghost use Rattle.std.specs.Prelude.{◌≡◌, List, ℕ, ◌≤◌, length};
-ghost use Rattle.places.specs.Places.{places_of};
-ghost use Rattle.state.specs.declared.Context.{Context};
-ghost use Rattle.state.specs.Full.{full, result_of};
+ghost use Rattle.std.specs.Prelude.{◌≡◌, not};
+ghost use Rattle.names.specs.Set.{names_of};
+ghost use Rattle.places.specs.Places.{Whole, last_with, never};
+ghost use Rattle.records.specs.Refusal.{answer_number};
+ghost use Rattle.state.specs.Builder.{SameLoans, full_of};
+ghost use Rattle.state.specs.Full.{result_of, with_stack};
 ghost use Rattle.standard.specs.Stack.{is_implied, implied_ends, implied_set, bad_implied};
 ghost use Rattle.standard.specs.Stack as def;
-ghost use Rattle.stacks.specs.Walk.{names_of};
 
-use crate::walk;
-use crate::walk::Category;
+use crate::{close, walk};
 use lent::Node;
 use names::Name;
-use state::{Core, Done};
+use names::sets::Set;
+use records::refusal::Refusal;
+use state::builder::Builder;
 
 // n has its end tag implied: it is of the set, and has not the excepted name.
-fn is_implied(nodes: &[u8], n: Node, set: Category, except: u16) -> bool
+#[tactic(auto, unfolding(standard::specs::Stack::is_implied))]
+fn is_implied(nodes: &[u8], n: Node, set: Set, except: u16) -> bool
     ensures { result ≡ is_implied (names_of set) except nodes.now n.0 }
 {
-    if !walk::is_of(nodes, n, set) {
-        return false;
-    }
-    lent::get(nodes, n, Node::NAME) != except
+    walk::is_of(nodes, n, set) && lent::get(nodes, n, Node::NAME) != except
 }
 
-// The current node is popped while its end tag is implied.
-fn pop_implied(nodes: &[u8], h: &mut [u16], depth: usize, set: Category, except: u16) -> usize
-    requires { depth ≤ length h.old }
-    ensures { places_of h.new result ≡ implied_ends (names_of set) except nodes.now (places_of h.old depth) }
+// The last entry whose end tag is not implied.
+#[tactic(auto, unfolding(places::specs::Places::last_with))]
+fn last_kept(b: &Builder<'_>, set: Set, except: u16) -> Option<usize>
+    requires { Whole (full_of b.now).stack }
+    ensures { result ≡ last_with (λ n. not (is_implied (names_of set) except (full_of b.now).nodes.mem n)) never (full_of b.now).stack }
 {
-    let mut k = depth;
-    while 0 < k {
-        let last = k - 1;
-        if !is_implied(nodes, Node(h[last]), set, except) {
-            return k;
-        }
-        k = places::cut_at(h, k, last);
-    }
-    k
+    places::last_with(
+        &b.stack[..b.core.depth],
+        |n| !is_implied(b.nodes, Node(n), set, except),
+        |_| false,
+    )
 }
 
-fn set_of(kind: u16) -> Category
+// The current node is popped while its end tag is implied: all that were opened after the last entry whose is not.
+fn pop_implied(b: &mut Builder<'_>, set: Set, except: u16)
+    requires { Whole (full_of b.old).stack }
+    ensures loans { SameLoans b.old b.new }
+    ensures outcome { full_of b.new ≡ with_stack (full_of b.old) (implied_ends (names_of set) except (full_of b.old).nodes.mem (full_of b.old).stack) }
+{
+    match last_kept(b, set, except) {
+        Some(i) => close::pop_from(b, i + 1),
+        None => close::pop_from(b, 0),
+    }
+}
+
+#[tactic(auto, using(crate::proofs::StackLaws::set_cursory, crate::proofs::StackLaws::set_thorough))]
+fn set_of(kind: u16) -> Set
     ensures { names_of result ≡ implied_set kind }
 {
     if kind == 0 {
-        Category::Cursory
+        Set::Cursory
     } else {
-        Category::Thorough
+        Set::Thorough
     }
 }
 
-// The answer is 2.
+// The kind or the excepted name is none that call 13 takes.
+#[tactic(auto, unfolding(standard::specs::Stack::bad_implied))]
 fn is_bad(kind: u16, except: u16) -> bool
     ensures { result ≡ bad_implied kind except }
 {
-    if 1 < kind {
-        return true;
-    }
-    if except == Name::NONE {
-        return false;
-    }
-    !names::is_name(except)
+    1 < kind || (except != Name::NONE && !names::is_name(except))
 }
 
-// 13
-pub fn generate_implied_end_tags(
-    h: &mut [u16],
-    core: Core,
-    nodes: &[u8],
-    kind: u16,
-    except: u16,
-) -> Done
-    requires { core.depth ≤ length h.old }
-    ensures { (l m p q : List ℕ) (x : Context) → result_of result.answer (full h.new result.core x nodes.now l m p q) ≡ def.implied (full h.old core x nodes.now l m p q) kind except }
+/// Call 13, "generate implied end tags", 13.2.6.3: kind 0, or "thoroughly": kind 1, except for elements with the name `except`, 0 for no
+/// exception. `Unknown` for another kind, or where `except` is neither 0 nor a name.
+#[tactic(auto, using(crate::proofs::StackLaws::implied_bad, crate::proofs::StackLaws::implied_done))]
+pub fn generate_implied_end_tags(b: &mut Builder<'_>, kind: u16, except: u16) -> Result<(), Refusal>
+    requires { Whole (full_of b.old).stack }
+    ensures loans { SameLoans b.old b.new }
+    ensures outcome { result_of (answer_number result) (full_of b.new) ≡ def.implied (full_of b.old) kind except }
 {
     if is_bad(kind, except) {
-        return Done {
-            answer: 2,
-            core: core,
-        };
+        return Err(Refusal::Unknown);
     }
-    let size = pop_implied(nodes, h, core.depth, set_of(kind), except);
-    Done {
-        answer: 0,
-        core: core.with_depth(size),
-    }
+    pop_implied(b, set_of(kind), except);
+    Ok(())
 }

@@ -1,96 +1,49 @@
 // Walks up the stack: from the current node to an entry that is wanted, unless an element of a set is met first. Every scope test
 // of 13.2.4.2 is such a walk, and so is the loop of "any other end tag".
-ghost use Rattle.std.specs.Prelude.{◌≡◌, ◌≤◌, length};
-ghost use Rattle.names.specs.Sets.{is_in};
-ghost use Rattle.places.specs.Places.{places_of};
+ghost use Rattle.std.specs.Prelude.{◌≡◌, ℕ, Bool};
+ghost use Rattle.names.specs.Set.{names_of};
+ghost use Rattle.places.specs.Places.{Whole};
+ghost use Rattle.places.specs.Search.{Computes};
+ghost use Rattle.state.specs.Builder.{full_of};
 ghost use Rattle.standard.specs.Stack.{is_of, is_cell, in_scope};
-ghost use Rattle.stacks.specs.Walk.{names_of, wanted_in};
 
 use lent::{Kind, Node};
 use location::html;
-use names::{sets, tag};
-use places::Found;
+use names::sets::Set;
+use names::tag;
+use state::builder::Builder;
 
-// A set of elements: those of a scope, the special ones, or those whose end tag is implied.
-#[derive(Clone, Copy)]
-pub enum Category {
-    Default,
-    ListItem,
-    Button,
-    Table,
-    Special,
-    Cursory,
-    Thorough,
-}
-
-// What a walk looks for: a node, an HTML element with a name, or an HTML td or th.
-#[derive(Clone, Copy)]
-pub enum Wanted {
-    Node(u16),
-    Html(u16),
-    Cell,
-}
-
-fn is_in(set: Category, space: u16, name: u16) -> bool
-    ensures { result ≡ is_in (names_of set) space name }
-{
-    match set {
-        Category::Default => sets::in_default_scope(space, name),
-        Category::ListItem => sets::in_list_item_scope(space, name),
-        Category::Button => sets::in_button_scope(space, name),
-        Category::Table => sets::in_table_scope(space, name),
-        Category::Special => sets::is_special(space, name),
-        Category::Cursory => sets::is_cursory(space, name),
-        Category::Thorough => sets::is_thorough(space, name),
-    }
-}
-
-// n is an element of the set.
-pub fn is_of(nodes: &[u8], n: Node, set: Category) -> bool
+/// Whether n is an element, and its namespace and name are of the set.
+#[tactic(auto, unfolding(standard::specs::Stack::is_of))]
+pub fn is_of(nodes: &[u8], n: Node, set: Set) -> bool
     ensures { result ≡ is_of (names_of set) nodes.now n.0 }
 {
-    if lent::get(nodes, n, Node::KIND) != Kind::ELEMENT {
-        return false;
-    }
-    let space = lent::get(nodes, n, Node::SPACE);
-    let name = lent::get(nodes, n, Node::NAME);
-    is_in(set, space, name)
+    lent::get(nodes, n, Node::KIND) == Kind::ELEMENT
+        && set.has(
+            lent::get(nodes, n, Node::SPACE),
+            lent::get(nodes, n, Node::NAME),
+        )
 }
 
-fn is_cell(nodes: &[u8], n: Node) -> bool
+/// Whether n is an HTML td or th element.
+#[tactic(auto, unfolding(standard::specs::Stack::is_cell))]
+pub fn is_cell(nodes: &[u8], n: Node) -> bool
     ensures { result ≡ is_cell nodes.now n.0 }
 {
-    if html::is_html(nodes, n, tag::TD) {
-        return true;
-    }
-    html::is_html(nodes, n, tag::TH)
+    html::is_html(nodes, n, tag::TD) || html::is_html(nodes, n, tag::TH)
 }
 
-fn is_wanted(nodes: &[u8], n: u16, w: Wanted) -> bool
-    ensures { result ≡ wanted_in nodes.now w n }
+/// Where the last entry of the stack that has `hit` stands, unless an element of the set stands after it: "has an element in the
+/// specific scope", 13.2.4.2.
+#[tactic(auto, unfolding(standard::specs::Stack::in_scope, places::specs::Places::last_with))]
+pub fn in_scope<H: Fn(u16) -> bool>(b: &Builder<'_>, set: Set, hit: H) -> Option<usize>
+    requires whole { Whole (full_of b.now).stack }
+    requires hit { H.IsAlwaysCallable hit }
+    ensures { (p : ℕ → Bool) → Computes (H.post hit) p → result ≡ in_scope (names_of set) p (full_of b.now).nodes.mem (full_of b.now).stack }
 {
-    match w {
-        Wanted::Node(f) => n == f,
-        Wanted::Html(name) => html::is_html(nodes, Node(n), name),
-        Wanted::Cell => is_cell(nodes, Node(n)),
-    }
-}
-
-// Where the wanted entry is met before an element of the set.
-pub fn in_scope(nodes: &[u8], h: &[u16], depth: usize, set: Category, w: Wanted) -> Found
-    requires { depth ≤ length h.now }
-    ensures { result ≡ in_scope (names_of set) (wanted_in nodes.now w) nodes.now (places_of h.now depth) }
-{
-    let mut k = depth;
-    while 0 < k {
-        k -= 1;
-        let n = h[k];
-        if is_wanted(nodes, n, w) {
-            return Found::At(k);
-        }
-        if is_of(nodes, Node(n), set) {
-            return Found::Nothing;
-        }
-    }
-    Found::Nothing
+    places::last_with(
+        &b.stack[..b.core.depth],
+        hit,
+        |n| is_of(b.nodes, Node(n), set),
+    )
 }

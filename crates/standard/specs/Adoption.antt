@@ -1,7 +1,7 @@
 -- 13.2.6.4.7: the adoption agency algorithm (call 8), and what a start tag `a` does to an `a` that is still in the list (call 9).
 -- Steps carry the standard's numbers. An entry is given by its place: s in the stack, j in the list.
 -- Assumes nothing.
-use Rattle.std.specs.Prelude.{ℕ, zero, suc, ◌+◌, ◌-◌, Bool, true, false, cond, not, List, drop, eqb, ltb}
+use Rattle.std.specs.Prelude.{ℕ, zero, suc, ◌+◌, ◌-◌, Bool, true, false, cond, not, List, drop, eqb, ltb, None, Option, Some}
 use Rattle.names.specs.Tag as tag
 use Rattle.names.specs.Space as space
 use Rattle.names.specs.Sets.{is_in, Formatting, Special, DefaultScope}
@@ -9,8 +9,6 @@ use Rattle.arena.specs.Links.{appended, detached, moved}
 use Rattle.makers.specs.Make.{copied}
 use Rattle.lent.specs.Room.{free_nodes}
 use Rattle.places.specs.Places.{Places, at, same, without, within, swapped, cut, first_with, last_with, place_of, exchanged, left}
-use Rattle.places.specs.declared.Found.{Found}
-use Rattle.places.specs.declared.Found.TheVariants.{At, Nothing}
 use Rattle.state.specs.Full.{Full, Result, refused, done, with_stack, with_list, with_nodes}
 use Rattle.standard.specs.Html.{is_html, current}
 use Rattle.standard.specs.Place.{appropriate_place, attached}
@@ -20,11 +18,11 @@ use Rattle.standard.specs.Stack.{is_of, named, in_scope, shorter, end_tag}
 -- ---- searches
 
 -- 4.3: the last entry with the name, between the end of the list and its last marker, if any, or its start
-unfoldable pub entry_of : List ℕ → Places → ℕ → Found
+unfoldable pub entry_of : List ℕ → Places → ℕ → Option ℕ
 entry_of m l name = last_with (named m name) (same MARKER) l
 
 -- 4.7: the topmost special element that is lower in the stack than entry s
-unfoldable pub furthest_of : List ℕ → Places → ℕ → Found
+unfoldable pub furthest_of : List ℕ → Places → ℕ → Option ℕ
 furthest_of m stack s = first_with (is_of Special m) (drop (s + 1) stack.held) (s + 1)
 
 -- ---- 4.13, the inner loop
@@ -68,9 +66,9 @@ unfoldable pub renewed_at : Inner → ℕ → ℕ → ℕ → Inner
 renewed_at w block i j = inner_at (renewed_in w.full i j w.last) (w.full.nodes.used + 1) (cond (eqb w.last block) (j + 1) w.mark)
 
 -- 4.13.4 to 4.13.9 for the node at place i of the stack, by its place in the list
-unfoldable pub turn_at : Found → Inner → ℕ → ℕ → ℕ → Inner
-turn_at Nothing w block i counter = inner_at (left_stack w.full i) w.last w.mark
-turn_at (At j) w block i counter =
+unfoldable pub turn_at : Option ℕ → Inner → ℕ → ℕ → ℕ → Inner
+turn_at None w block i counter = inner_at (left_stack w.full i) w.last w.mark
+turn_at (Some j) w block i counter =
     cond (ltb 3 counter) (inner_at (left_both w.full i j) w.last (gone w.mark j)) (renewed_at w block i j)
 
 unfoldable pub turned : Inner → ℕ → ℕ → ℕ → Inner
@@ -95,9 +93,9 @@ unfoldable pub rehung : List ℕ → ℕ → ℕ → ℕ → List ℕ
 rehung m new fe block = appended (moved (copied m new fe) block new) block new
 
 -- 4.18: entry j, the formatting element, leaves the list, and n comes in at the bookmark
-unfoldable pub at_mark : Found → Places → ℕ → ℕ → Places
-at_mark Nothing l p n = l
-at_mark (At j) l p n = within (without l j) (gone p j) n
+unfoldable pub at_mark : Option ℕ → Places → ℕ → ℕ → Places
+at_mark None l p n = l
+at_mark (Some j) l p n = within (without l j) (gone p j) n
 
 unfoldable pub relisted : ℕ → Places → ℕ → ℕ → Places
 relisted p l fe n = at_mark (place_of l fe) l p n
@@ -135,34 +133,34 @@ abbrev pub next_round : Full → Turn
 next_round f = record { after = f; again = true }
 
 -- 4.8: without a furthest block all from fe on are popped, and fe leaves the list; else 4.9 to 4.19
-unfoldable pub block_at : Found → Full → ℕ → ℕ → ℕ → Turn
-block_at Nothing f fe s j = last_round (with_list (with_stack f (cut f.stack s)) (without f.list j))
-block_at (At b) f fe s j = next_round (adopted f fe s j b)
+unfoldable pub block_at : Option ℕ → Full → ℕ → ℕ → ℕ → Turn
+block_at None f fe s j = last_round (with_list (with_stack f (cut f.stack s)) (without f.list j))
+block_at (Some b) f fe s j = next_round (adopted f fe s j b)
 
 -- 4.7
 unfoldable pub blocked : Full → ℕ → ℕ → ℕ → Turn
 blocked f fe s j = block_at (furthest_of f.nodes.mem f.stack s) f fe s j
 
 -- 4.5: nothing is done if fe is not in scope
-unfoldable pub scope_at : Found → Full → ℕ → ℕ → ℕ → Turn
-scope_at Nothing f fe s j = last_round f
-scope_at (At k) f fe s j = blocked f fe s j
+unfoldable pub scope_at : Option ℕ → Full → ℕ → ℕ → ℕ → Turn
+scope_at None f fe s j = last_round f
+scope_at (Some k) f fe s j = blocked f fe s j
 
 unfoldable pub scoped : Full → ℕ → ℕ → ℕ → Turn
 scoped f fe s j = scope_at (in_scope DefaultScope (same fe) f.nodes.mem f.stack) f fe s j
 
 -- 4.4: fe leaves the list if it is not open
-unfoldable pub open_at : Found → Full → ℕ → ℕ → Turn
-open_at Nothing f fe j = last_round (with_list f (without f.list j))
-open_at (At s) f fe j = scoped f fe s j
+unfoldable pub open_at : Option ℕ → Full → ℕ → ℕ → Turn
+open_at None f fe j = last_round (with_list f (without f.list j))
+open_at (Some s) f fe j = scoped f fe s j
 
 unfoldable pub opened : Full → ℕ → Turn
 opened f j = open_at (place_of f.stack (at f.list j)) f (at f.list j) j
 
 -- 4.3: the formatting element, or else "any other end tag"
-unfoldable pub entry_at : Found → Full → ℕ → Turn
-entry_at Nothing f name = last_round (with_stack f (end_tag f.nodes.mem f.stack name))
-entry_at (At j) f name = opened f j
+unfoldable pub entry_at : Option ℕ → Full → ℕ → Turn
+entry_at None f name = last_round (with_stack f (end_tag f.nodes.mem f.stack name))
+entry_at (Some j) f name = opened f j
 
 unfoldable pub rounded : Full → ℕ → Turn
 rounded f name = entry_at (entry_of f.nodes.mem f.list name) f name
@@ -175,9 +173,9 @@ rounds f name (suc k) = cond (rounded f name).again (rounds (rounded f name).aft
 -- ---- the calls
 
 -- 2: the current node, if it has the name and is not in the list, is popped; 3: eight rounds
-unfoldable pub current_at : Found → Full → ℕ → Full
-current_at Nothing f name = with_stack f (shorter f.stack)
-current_at (At j) f name = rounds f name 8
+unfoldable pub current_at : Option ℕ → Full → ℕ → Full
+current_at None f name = with_stack f (shorter f.stack)
+current_at (Some j) f name = rounds f name 8
 
 unfoldable pub agency : Full → ℕ → Full
 agency f name =
@@ -196,9 +194,9 @@ adoption f name = cond (not (is_in Formatting space.html name)) (refused 2 f) (c
 unfoldable pub leaves : Full → ℕ → Full
 leaves f n = with_list (with_stack f (left f.stack n)) (left f.list n)
 
-unfoldable pub misnested_at : Found → Full → Result
-misnested_at Nothing f = done f
-misnested_at (At j) f = cond (few_nodes f) (refused 4 f) (done (leaves (agency f tag.a) (at f.list j)))
+unfoldable pub misnested_at : Option ℕ → Full → Result
+misnested_at None f = done f
+misnested_at (Some j) f = cond (few_nodes f) (refused 4 f) (done (leaves (agency f tag.a) (at f.list j)))
 
 unfoldable pub misnested : Full → Result
 misnested f = misnested_at (entry_of f.nodes.mem f.list tag.a) f

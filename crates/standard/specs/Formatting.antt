@@ -1,6 +1,6 @@
 -- 13.2.4.3, the list of active formatting elements: the calls 4 (create an element for a formatting tag) and 7 (reconstruct).
 -- Assumes nothing.
-use Rattle.std.specs.Prelude.{ℕ, zero, suc, ◌+◌, ◌-◌, Bool, true, false, cond, not, ◌&&◌, ◌||◌, List, [], ◌∷◌, drop, eqb, ltb}
+use Rattle.std.specs.Prelude.{ℕ, zero, suc, ◌+◌, ◌-◌, Bool, true, false, cond, not, ◌&&◌, ◌||◌, List, [], ◌∷◌, drop, eqb, ltb, None, Option, Some}
 use Rattle.names.specs.Space as space
 use Rattle.names.specs.Sets.{is_in, Formatting}
 use Rattle.lent.specs.Mem.{PAIRS, load, field, NAME, START, COUNT}
@@ -8,8 +8,6 @@ use Rattle.lent.specs.Room.{free_nodes, free_pairs}
 use Rattle.makers.specs.Make.{copied}
 use Rattle.makers.specs.declared.make.Tag.{Tag}
 use Rattle.places.specs.Places.{Places, at, pushed, swapped, left_at, first_with, last_with, never, place_of}
-use Rattle.places.specs.declared.Found.{Found}
-use Rattle.places.specs.declared.Found.TheVariants.{At, Nothing}
 use Rattle.state.specs.Full.{Full, Result, refused, done, with_stack, with_list, with_nodes}
 use Rattle.standard.specs.Small.{room, MARKER}
 use Rattle.standard.specs.Place.{attached}
@@ -18,9 +16,9 @@ use Rattle.standard.specs.Insertion.{usual_place, bad_pairs, new_tag, element_do
 use Rattle.standard.specs.Stack.{is_found}
 
 -- the entry after the one that was found, or the first
-unfoldable pub after : Found → ℕ
-after Nothing = 0
-after (At i) = i + 1
+unfoldable pub after : Option ℕ → ℕ
+after None = 0
+after (Some i) = i + 1
 
 -- ---- 7: "reconstruct the active formatting elements"
 
@@ -86,11 +84,11 @@ unfoldable pub after_marker : Places → ℕ
 after_marker l = after (place_of l MARKER)
 
 -- Step 1: if three or more of the entries after the last marker have the tag, the earliest of them goes.
-unfoldable pub surplus : (ℕ → Bool) → Places → Found
+unfoldable pub surplus : (ℕ → Bool) → Places → Option ℕ
 surplus p l =
     cond (ltb 2 (how_many p (drop (after_marker l) l.held)))
     (first_with p (drop (after_marker l) l.held) (after_marker l))
-    Nothing
+    None
 
 -- the list without that one
 unfoldable pub spared : Full → Tag → List (ℕ × ℕ) → Places

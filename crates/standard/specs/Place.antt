@@ -1,12 +1,10 @@
 -- 13.2.6.1, "appropriate place for inserting a node".
 -- Assumes nothing.
-use Rattle.std.specs.Prelude.{ℕ, ◌-◌, Bool, true, false, cond, ◌&&◌, ◌||◌, List, eqb}
+use Rattle.std.specs.Prelude.{ℕ, ◌-◌, Bool, true, false, cond, ◌&&◌, ◌||◌, List, eqb, None, Option, Some}
 use Rattle.names.specs.Tag as tag
 use Rattle.lent.specs.Mem.{field, KIND, PARENT, PREV, LAST, TIE, TEXT}
 use Rattle.lent.specs.declared.Node.{Node}
 use Rattle.places.specs.Places.{Places, at, last_with, never}
-use Rattle.places.specs.declared.Found.{Found}
-use Rattle.places.specs.declared.Found.TheVariants.{At, Nothing}
 use Rattle.arena.specs.Links.{appended, inserted}
 use Rattle.standard.specs.Html.{is_html, is_foster_target}
 use Rattle.standard.specs.declared.Place.{Place}
@@ -36,9 +34,9 @@ unfoldable pub template_or_table : List ℕ → Places → ℕ → Place
 template_or_table m s i = pick (is_html m (at s i) tag.template) (end_of m (at s i)) (table_place m s i)
 
 -- Step 2.5: neither is open, so the first element of the stack.
-unfoldable pub foster_at : Found → List ℕ → Places → Place
-foster_at Nothing m s = end_of m (at s 0)
-foster_at (At i) m s = template_or_table m s i
+unfoldable pub foster_at : Option ℕ → List ℕ → Places → Place
+foster_at None m s = end_of m (at s 0)
+foster_at (Some i) m s = template_or_table m s i
 
 -- Steps 2.2, 2.3: the last template or table of the stack, whichever is lower.
 unfoldable pub is_foster_stop : List ℕ → ℕ → Bool

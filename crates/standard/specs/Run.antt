@@ -1,10 +1,9 @@
 -- A run of records: the record at the front is decoded and done, and the run goes on behind it; the first refusal ends it.
 -- Assumes nothing.
-use Rattle.std.specs.Prelude.{ℕ, zero, suc, ◌+◌, ◌-◌, List, cond, length, ltb, eqb}
+use Rattle.std.specs.Prelude.{ℕ, zero, suc, ◌+◌, ◌-◌, List, cond, length, ltb, eqb, Ok, Err}
 use Rattle.records.specs.declared.Record.{Record}
-use Rattle.records.specs.declared.Item.{Item}
-use Rattle.records.specs.declared.Item.TheVariants as is
-use Rattle.records.specs.Record.{item_at}
+use Rattle.records.specs.Refusal.{number_of}
+use Rattle.records.specs.Record.{item_at, Item}
 use Rattle.state.specs.Full.{Full, Result, refused}
 use Rattle.standard.specs.Step.{step}
 
@@ -23,9 +22,8 @@ unless_refused r n next = cond (eqb r.answer 0) (next r.after) (ran r.answer n r
 
 -- an unknown call answers 2, a record that is cut short or badly written 9
 unfoldable pub on_item : Item → ℕ → Full → (Record → ℕ → Ran) → Ran
-on_item (is.Call r next) n f go = go r next
-on_item is.Unknown n f go = ran 2 n f
-on_item is.Bad n f go = ran 9 n f
+on_item (Ok (r, next)) n f go = go r next
+on_item (Err k) n f go = ran (number_of k) n f
 
 -- from byte i on, n records being done: at most k more records
 unfoldable pub run_for : ℕ → List ℕ → ℕ → ℕ → Full → Ran
@@ -44,9 +42,8 @@ run_of s f = run_from s 0 0 f
 
 -- a single call, given as a record: the record at the front
 unfoldable pub on_single : Item → List ℕ → Full → Result
-on_single (is.Call r next) s f = step s r f
-on_single is.Unknown s f = refused 2 f
-on_single is.Bad s f = refused 9 f
+on_single (Ok (r, next)) s f = step s r f
+on_single (Err k) s f = refused (number_of k) f
 
 unfoldable pub single : List ℕ → Full → Result
 single s f = on_single (item_at s 0) s f

@@ -1,9 +1,7 @@
 -- The calls that touch places and flags alone: 5 and 6 (formatting list), 14 (pop), 15 and 18 (flags), 16 and 17 (template modes).
 -- Assumes nothing.
-use Rattle.std.specs.Prelude.{ℕ, ◌+◌, ◌-◌, min, cond, ◌||◌, length, eqb, ltb}
+use Rattle.std.specs.Prelude.{ℕ, ◌+◌, ◌-◌, min, cond, ◌||◌, length, eqb, ltb, None, Option, Some}
 use Rattle.places.specs.Places.{Places, pushed, cut, place_of}
-use Rattle.places.specs.declared.Found.{Found}
-use Rattle.places.specs.declared.Found.TheVariants.{At, Nothing}
 use Rattle.state.specs.Full.{Full, Result, refused, done, with_stack, with_list, with_modes, with_flags}
 
 -- how many places there are: those that were lent, but no more than most
@@ -20,9 +18,9 @@ marked f = cond (ltb f.list.size (room 256 f.list)) (done (with_list f (pushed f
 
 -- 6: 13.2.4.3, "clear the list of active formatting elements up to the last marker", steps 1 to 4: entries go up to and with the
 -- last marker, or all of them
-unfoldable pub cleared_at : Found → Places → Places
-cleared_at Nothing p = cut p 0
-cleared_at (At i) p = cut p i
+unfoldable pub cleared_at : Option ℕ → Places → Places
+cleared_at None p = cut p 0
+cleared_at (Some i) p = cut p i
 
 unfoldable pub cleared : Full → Result
 cleared f = done (with_list f (cleared_at (place_of f.list MARKER) f.list))

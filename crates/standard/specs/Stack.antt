@@ -1,14 +1,12 @@
 -- The stack of open elements: scope tests (13.2.4.2), and the calls 10 (any other end tag, 13.2.6.4.7), 11 (close a p element),
 -- 12 (close the cell, 13.2.6.4.15) and 13 (generate implied end tags, 13.2.6.3).
 -- Assumes nothing.
-use Rattle.std.specs.Prelude.{ℕ, zero, suc, ◌-◌, Bool, true, false, cond, not, ◌&&◌, ◌||◌, List, eqb, ltb}
+use Rattle.std.specs.Prelude.{ℕ, zero, suc, ◌-◌, Bool, true, false, cond, not, ◌&&◌, ◌||◌, List, eqb, ltb, None, Option, Some}
 use Rattle.names.specs.Tag as tag
 use Rattle.names.specs.Numbers.{is_name}
 use Rattle.names.specs.Sets.{Names, is_in, Special, ButtonScope, TableScope, Cursory, Thorough}
 use Rattle.lent.specs.Mem.{field, KIND, SPACE, NAME, ELEMENT}
 use Rattle.places.specs.Places.{Places, at, same, cut, last_with}
-use Rattle.places.specs.declared.Found.{Found}
-use Rattle.places.specs.declared.Found.TheVariants.{At, Nothing}
 use Rattle.state.specs.Full.{Full, Result, refused, done, with_stack}
 use Rattle.standard.specs.Html.{is_html, current}
 use Rattle.standard.specs.Small.{cleared}
@@ -29,12 +27,12 @@ is_cell m n = is_html m n tag.td || is_html m n tag.th
 
 -- "Has an element in the specific scope", and where: from the current node upwards the entry that is wanted, unless an element of
 -- the set is met first.
-unfoldable pub in_scope : Names → (ℕ → Bool) → List ℕ → Places → Found
+unfoldable pub in_scope : Names → (ℕ → Bool) → List ℕ → Places → Option ℕ
 in_scope set wanted m s = last_with wanted (is_of set m) s
 
-unfoldable pub is_found : Found → Bool
-is_found Nothing = false
-is_found (At i) = true
+unfoldable pub is_found : Option ℕ → Bool
+is_found None = false
+is_found (Some i) = true
 
 -- ---- pops
 
@@ -113,9 +111,9 @@ bad_end_tag name = not (is_name name) || eqb name tag.html
 
 -- Steps 1, 2 and 4: the loop goes on as a scope test does, with the special elements as the set. Steps 2.1 and 2.3: implied end tags
 -- but for the name, and then all is popped up to the node and with it. Step 3: a special element is met first, nothing is done.
-unfoldable pub ended_at : Found → List ℕ → Places → ℕ → Places
-ended_at Nothing m s name = s
-ended_at (At i) m s name = popped_until (same (at s i)) (implied_ends Cursory name m s)
+unfoldable pub ended_at : Option ℕ → List ℕ → Places → ℕ → Places
+ended_at None m s name = s
+ended_at (Some i) m s name = popped_until (same (at s i)) (implied_ends Cursory name m s)
 
 unfoldable pub end_tag : List ℕ → Places → ℕ → Places
 end_tag m s name = ended_at (in_scope Special (named m name) m s) m s name

@@ -1,12 +1,11 @@
 -- The record's fields: a writer of each. Nothing else names the record's parts, so a new field touches these writers alone.
 -- Assumes nothing.
-use Rattle.std.specs.Prelude.{ℕ, List, replicate}
+use Rattle.std.specs.Prelude.{ℕ, List, replicate, None, Option}
 use Rattle.state.specs.declared.Core.{Core}
 use Rattle.state.specs.declared.Counts.{Counts}
 use Rattle.state.specs.declared.Flags.{Flags}
 use Rattle.state.specs.declared.State.{State}
 use Rattle.state.specs.declared.Context.{Context}
-use Rattle.state.specs.declared.Context.TheVariants.{None}
 
 unfoldable pub set_depth : Core → ℕ → Core
 set_depth c n = record { depth = n; counts = c.counts; flags = c.flags }
@@ -47,7 +46,7 @@ set_head c n = set_flags c (record { foster = c.flags.foster; head = n })
 unfoldable pub core_of : State → Core
 core_of st = record { depth = st.stack.depth; counts = st.counts; flags = st.flags }
 
-unfoldable pub state_of : List ℕ → Core → Context → State
+unfoldable pub state_of : List ℕ → Core → Option Context → State
 state_of h c x = record { stack = record { handles = h; depth = c.depth }; counts = c.counts; flags = c.flags; context = x }
 
 -- nothing is open and nothing used

@@ -1,6 +1,6 @@
 -- The whole state as the definitions of the calls see it: the record and the lent memory together.
 -- Assumes nothing.
-use Rattle.std.specs.Prelude.{ℕ, List}
+use Rattle.std.specs.Prelude.{ℕ, List, Option}
 use Rattle.places.specs.Places.{Places, places_of}
 use Rattle.state.specs.declared.Core.{Core}
 use Rattle.state.specs.declared.Flags.{Flags}
@@ -20,10 +20,10 @@ pub record Full : Type 0 where
   pub pieces : Region
   pub pairs : Region
   pub flags : Flags
-  pub context : Context
+  pub context : Option Context
 
 -- what the places of the stack, the record, and the lent nodes, list, modes, pieces and pairs hold
-abbrev pub full : List ℕ → Core → Context → List ℕ → List ℕ → List ℕ → List ℕ → List ℕ → Full
+abbrev pub full : List ℕ → Core → Option Context → List ℕ → List ℕ → List ℕ → List ℕ → List ℕ → Full
 full s c x n l m p q =
     record {
       stack = places_of s c.depth;

@@ -1,16 +1,20 @@
--- What the calls rely on of the record and the places: all of it holds in a sound state.
+-- What the calls rely on of the state: all of it holds in a sound state.
 -- Assumes nothing.
-use Rattle.std.specs.Prelude.{ℕ, ◌<◌, ◌≤◌, ◌≡◌, ◌⊎◌, List, length, get_or}
-use Rattle.state.specs.declared.Core.{Core}
+use Rattle.std.specs.Prelude.{ℕ, ◌<◌, ◌≤◌, ◌≡◌, ◌+◌, ◌⊎◌, length, get_or}
+use Rattle.places.specs.Places.{Whole}
+use Rattle.state.specs.Full.{Full}
 
--- h are the places of the stack, l of the formatting list
-pub record Ready (h l : List ℕ) (c : Core) : Type 0 where
-  pub some : 0 < c.depth
-  pub deep : c.depth ≤ 512
-  pub places : length h ≡ 512
-  pub list : c.counts.list ≤ length l
-  pub pairs : c.counts.pairs ≤ 4096
-  pub nodes : c.counts.nodes ≤ 4096
+pub record Ready (f : Full) : Type 0 where
+  -- the stack has 512 places, one at least in use
+  pub some : 0 < f.stack.size
+  pub deep : f.stack.size ≤ 512
+  pub places : f.stack.size + length f.stack.free ≡ 512
+  -- as many are in use as the record says
+  pub stack : Whole f.stack
+  pub list : Whole f.list
+  pub modes : Whole f.modes
+  pub pairs : f.pairs.used ≤ 4096
+  pub nodes : f.nodes.used ≤ 4096
   -- an open element is a used node, and an entry of the list a used node or a marker
-  pub used : (i : ℕ) → i < c.depth → get_or h i 0 ≤ c.counts.nodes
-  pub listed : (i : ℕ) → i < c.counts.list → (get_or l i 0 ≤ c.counts.nodes) ⊎ (get_or l i 0 ≡ 65535)
+  pub used : (i : ℕ) → i < length f.stack.held → get_or f.stack.held i 0 ≤ f.nodes.used
+  pub listed : (i : ℕ) → i < length f.list.held → (get_or f.list.held i 0 ≤ f.nodes.used) ⊎ (get_or f.list.held i 0 ≡ 65535)

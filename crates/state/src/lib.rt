@@ -3,6 +3,9 @@
 ghost use Rattle.std.specs.Prelude.{◌≡◌, replicate};
 ghost use Rattle.state.specs.Fields.{set_depth, set_nodes, set_pieces, set_pairs, set_list, set_modes, set_foster, set_head, core_of, state_of, empty_state};
 
+pub mod builder;
+pub mod lent;
+
 // The stack of open elements: places for node numbers, of which the first `depth` are in use.
 #[derive(Clone, Copy)]
 pub struct Stack {
@@ -48,11 +51,12 @@ pub struct Flags {
     pub head: usize,
 }
 
-// The fragment context, if there is one.
+/// The fragment context: the element that a fragment is parsed for, by its namespace, name and mark.
 #[derive(Clone, Copy)]
-pub enum Context {
-    None,
-    Element { space: u16, name: u16, mark: u16 },
+pub struct Context {
+    pub space: u16,
+    pub name: u16,
+    pub mark: u16,
 }
 
 #[derive(Clone, Copy)]
@@ -60,7 +64,7 @@ pub struct State {
     pub stack: Stack,
     pub counts: Counts,
     pub flags: Flags,
-    pub context: Context,
+    pub context: Option<Context>,
 }
 
 // What goes through a run by value: the places of the stack are lent beside it, and what no call changes stays behind.
@@ -69,13 +73,6 @@ pub struct Core {
     pub depth: usize,
     pub counts: Counts,
     pub flags: Flags,
-}
-
-// A call's answer, and the record after it.
-#[derive(Clone, Copy)]
-pub struct Done {
-    pub answer: usize,
-    pub core: Core,
 }
 
 impl Core {
@@ -151,7 +148,23 @@ impl State {
                 modes: 0,
             },
             flags: Flags { foster: 0, head: 0 },
-            context: Context::None,
+            context: None,
+        }
+    }
+
+    #[tactic(auto, unfolding(crate::specs::Fields::state_of))]
+    /// The record put together of the stack's places and what goes through a run beside them.
+    pub fn of(handles: [u16; 512], core: Core, context: Option<Context>) -> State
+        ensures { result ≡ state_of handles core context }
+    {
+        State {
+            stack: Stack {
+                handles,
+                depth: core.depth,
+            },
+            counts: core.counts,
+            flags: core.flags,
+            context,
         }
     }
 
@@ -165,16 +178,5 @@ impl State {
             counts: counts,
             flags: flags,
         }
-    }
-
-    pub fn with_core(mut self, c: Core) -> State
-        ensures { result ≡ state_of self.stack.handles c self.context }
-    {
-        let counts = c.counts;
-        let flags = c.flags;
-        self.stack.depth = c.depth;
-        self.counts = counts;
-        self.flags = flags;
-        self
     }
 }

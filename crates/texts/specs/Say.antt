@@ -1,17 +1,17 @@
--- What the functions of the check give: r is 0 where they refuse.
+-- What the functions of the check give: r is how many pieces there are, or none where they refuse.
 -- Assumes nothing.
-use Rattle.std.specs.Prelude.{◌≡◌, ◌≢◌, List, ℕ, ◌+◌, ◌≤◌, length}
+use Rattle.std.specs.Prelude.{◌≡◌, ◌≢◌, List, ℕ, ◌+◌, ◌≤◌, length, Option, Some, None}
 use Rattle.texts.specs.Texts.{Told, Untold}
 use Rattle.texts.specs.Pieces.{Met, Unmet}
 
-pub record Chained (f : ℕ → ℕ) (seen seen' : List ℕ) (u x e r : ℕ) : Type 0 where
+pub record Chained (f : ℕ → ℕ) (seen seen' : List ℕ) (u x e : ℕ) (r : Option ℕ) : Type 0 where
   pub long : length seen' ≡ length seen
-  pub small : r ≤ u
-  pub good : r ≢ 0 → Met f seen seen' u x 0 e r
-  pub bad : r ≡ 0 → Unmet f seen u x e
+  pub small : (k : ℕ) → r ≡ Some k → (k ≢ 0) × (k ≤ u)
+  pub good : (k : ℕ) → r ≡ Some k → Met f seen seen' u x 0 e k
+  pub bad : r ≡ None → Unmet f seen u x e
 
-pub record Texted (m q seen seen' : List ℕ) (u n r : ℕ) : Type 0 where
+pub record Texted (m q seen seen' : List ℕ) (u n : ℕ) (r : Option ℕ) : Type 0 where
   pub long : length seen' ≡ length seen
-  pub small : r ≤ u + 1
-  pub good : r ≢ 0 → Told m q seen seen' u n r
-  pub bad : r ≡ 0 → Untold m q seen u n
+  pub small : (k : ℕ) → r ≡ Some k → k ≤ u
+  pub good : (k : ℕ) → r ≡ Some k → Told m q seen seen' u n (k + 1)
+  pub bad : r ≡ None → Untold m q seen u n

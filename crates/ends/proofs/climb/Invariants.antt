@@ -1,10 +1,13 @@
-use Rattle.std.proofs.Common.{◌≡◌, ◌≤◌, ◌+◌, ◌-◌}
+use Rattle.std.proofs.Common.{◌≡◌, ℕ, ◌≤◌, ◌+◌}
 use Rattle.lent.specs.Mem.{up}
 use Rattle.theory.specs.Depth.{Ends, depth}
 use Rattle.ends.proofs.climb.Given as goal
 
-abbrev pub invariant-loop-k : goal.invariant-loop-k
-invariant-loop-k l = (l.y ≤ l.c) × (l.k ≤ l.c + 1) × (Ends (up l.mem) l.c → depth (up l.mem) l.c l.x ≡ l.k + depth (up l.mem) l.c l.y) × (l.k ≡ 0 → l.y ≡ l.x)
+-- k steps up from x is y
+pub record Went (up : ℕ → ℕ) (c x y k : ℕ) : Type 0 where
+  pub used : y ≤ c
+  pub way : Ends up c → depth up c x ≡ k + depth up c y
+  pub start : k ≡ 0 → y ≡ x
 
-abbrev pub decreases-loop-k : goal.decreases-loop-k
-decreases-loop-k l = l.c + 1 - l.k
+abbrev pub invariant-loop-k : goal.invariant-loop-k
+invariant-loop-k l = Went (up l.mem) l.c l.x l.y l.k

@@ -32,10 +32,9 @@ returns-then-d-k c = let f = c.loop-x.invariant in
       long = f.better.long;
       right = f.better.right;
       known = λ e. f≢ e;
-      bad = λ _. deny f.better.right c.climb-got.ensures c.if-d-k.true;
+      bad = λ _. deny f.better.right c.climb-y.ensures (omega (arith, c.if-d-k.true));
     }
 
 pub assign-requires-clause-depth_of_x : goal.assign-requires-clause-depth_of_x
 assign-requires-clause-depth_of_x c = let f = c.loop-x.invariant in
-    let h = c.if-d-k.false in
-    way f.better.right c.climb-got.ensures h
+    rw c.from-d.ensures (way f.better.right c.climb-y.ensures (omega arith))

@@ -1,8 +1,10 @@
-use Rattle.std.proofs.Common.{sym, ◌≢◌, List, ℕ, ◌≤◌, ◌<◌, arith}
+use Rattle.std.proofs.Common.{sym, ◌∙◌, ◌≢◌, List, ℕ, ◌≤◌, ◌<◌, arith}
+use Rattle.lent.specs.Mem.{up}
 use Rattle.theory.specs.Fn.{at}
-use Rattle.theory.specs.Says.{f≢}
+use Rattle.theory.specs.Says.{says_yes, says_no, more}
 use Rattle.theory.specs.Depth.{Ends, deeper, ranked}
 use Rattle.ends.specs.Say.{Given, Known}
+use Rattle.ends.proofs.verify.Goals.{else-p-ne0-via-then-p-ne0+else-dep-p, else-p-ne0-via-else-p-ne0}
 use Rattle.ends.proofs.verify.Goals as goal
 
 -- a node that stands no lower than its child: going up does not end
@@ -14,22 +16,20 @@ deny {up} {dep} {c} g k n z l u h e =
     let b = g.right.right e (up n) pc (k.known (up n) (omega arith) pc) in
     omega (arith, deeper g.range e n z l)
 
-pub returns-then-a-b : goal.returns-then-a-b
-returns-then-a-b c = let a = c.loop-n in
-    let t = c.loop-n-test.true in
+pub returns-then-dep-p : goal.returns-then-dep-p
+returns-then-dep-p c = let n = c.loop-n.n in
+    let d = c.args.dep.now in
     let q = c.up-p.ensures.0 in
-    record {
-      good = f≢;
-      bad = λ _.
-          deny c.requires.given c.requires.known a.n a.invariant.0 t (rw (← q) c.if-p-ne0.true)
-          (rw (← q) c.if-a-b.true);
-    }
+    let h : at d n ≤ at d c.up-p.result = omega arith in
+    says_no (deny c.requires.given c.requires.known n c.loop-n.auto.n c.loop-n-test.true (rw (← q) c.if-p-ne0.true) (rw q at h))
 
-pub returns : goal.returns
-returns c = let a = c.loop-n in
-    record {
-      good = λ _.
-          ranked c.requires.given.range c.args.dep.now
-          (λ n z l u. a.invariant.2 n z (omega (arith, c.loop-n-test.false)) u);
-      bad = λ e. f≢ (sym e);
-    }
+pub returns-else-p-ne0 : goal.returns-else-p-ne0
+returns-else-p-ne0 c = let m = c.args.mem.now in
+    let n = c.loop-n.n in
+    let d = c.args.dep.now in
+    let q = c.up-p.ensures.0 in
+    let here : up m n ≢ 0 → at d (up m n) < at d n = elim c.else-p-ne0.branch [
+      | else-p-ne0-via-then-p-ne0+else-dep-p w ↦ λ u. rw (← q) (omega arith)
+      | else-p-ne0-via-else-p-ne0 w ↦ λ u. absurd (u (sym q ∙ w.if-p-ne0.false))
+    ] in
+    says_yes (ranked c.requires.given.range d (λ i z l. more c.loop-n.invariant here i z (omega arith)))

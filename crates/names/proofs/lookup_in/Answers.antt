@@ -1,16 +1,17 @@
-use Rattle.std.proofs.Common.{sym, ◌∙◌, ap, add-one, arith}
+use Rattle.std.proofs.Common.{◌≡◌, sym, ◌∙◌, ap, List, ℕ, Bool, eqb, add-one, arith}
+use Rattle.std.specs.Cmp.Lexicographic.{pointwise}
 use Rattle.names.specs.Text.{same}
-use Rattle.names.proofs.Find.{scan_hit, scan_miss, scan_past}
+use Rattle.names.proofs.Find.{same_pointwise, scan_hit, scan_miss, scan_past}
 use Rattle.names.proofs.lookup_in.Goals as goal
 
-pub returns-then-is_same : goal.returns-then-is_same
-returns-then-is_same c = sym (c.loop-n.invariant.1 ∙ scan_hit c.args.b.now c.loop-n.n (omega arith) (sym (c.is_same.ensures ∙ ap (same c.args.b.now) c.name_in.ensures) ∙ c.if-is_same.true))
+told : (b : List ℕ) {x y : List ℕ} {r t : Bool} → r ≡ pointwise eqb b x → x ≡ y → r ≡ t → same b y ≡ t
+told b e i d = same_pointwise b _ ∙ ap (pointwise eqb b) (sym i) ∙ sym e ∙ d
+
+pub returns-then-eq : goal.returns-then-eq
+returns-then-eq c = sym (c.loop-n.invariant ∙ scan_hit c.args.b.now c.loop-n.n (omega arith) (told c.args.b.now c.eq.ensures c.name_in.ensures c.if-eq.true))
 
 pub loop-n-preserved : goal.loop-n-preserved
-loop-n-preserved c = (
-  omega arith,
-  rw add-one (c.loop-n.invariant.1 ∙ scan_miss c.args.b.now c.loop-n.n (omega arith) (sym (c.is_same.ensures ∙ ap (same c.args.b.now) c.name_in.ensures) ∙ c.if-is_same.false)),
-)
+loop-n-preserved c = rw add-one (c.loop-n.invariant ∙ scan_miss c.args.b.now c.loop-n.n (omega arith) (told c.args.b.now c.eq.ensures c.name_in.ensures c.if-eq.false))
 
 pub returns : goal.returns
-returns c = sym (c.loop-n.invariant.1 ∙ scan_past c.args.b.now c.loop-n.n (omega arith))
+returns c = sym (c.loop-n.invariant ∙ scan_past c.args.b.now c.loop-n.n (omega arith))

@@ -1,10 +1,6 @@
-use Rattle.std.proofs.Common.{◌≡◌, ◌-◌, ◌≤◌, drop}
-use Rattle.names.specs.Table.{limit}
+use Rattle.std.proofs.Common.{◌≡◌, drop}
 use Rattle.names.specs.Numbers.{rows, place, number_of}
 use Rattle.names.proofs.lookup_in.Given as goal
 
 abbrev pub invariant-loop-n : goal.invariant-loop-n
-invariant-loop-n l = (l.n ≤ limit) × (number_of l.b ≡ place l.b l.n (drop l.n rows))
-
-abbrev pub decreases-loop-n : goal.decreases-loop-n
-decreases-loop-n l = limit - l.n
+invariant-loop-n l = number_of l.b ≡ place l.b l.n (drop l.n rows)

@@ -1,9 +1,6 @@
-use Rattle.std.proofs.Common.{◌≡◌, ℕ, ◌≤◌, ◌<◌, ◌-◌}
+use Rattle.std.proofs.Common.{◌≡◌, ℕ, ◌≤◌, ◌<◌}
 use Rattle.lent.specs.Mem.{field}
 use Rattle.nodes.proofs.clear.Given as goal
 
 abbrev pub invariant-loop-f : goal.invariant-loop-f
-invariant-loop-f l = (l.a ≤ l.f) × (l.f ≤ l.b) × ((g : ℕ) → l.a ≤ g → g < l.f → field l.mem l.x g ≡ 0)
-
-abbrev pub decreases-loop-f : goal.decreases-loop-f
-decreases-loop-f l = l.b - l.f
+invariant-loop-f l = (g : ℕ) → l.a ≤ g → g < l.f → field l.mem l.x g ≡ 0

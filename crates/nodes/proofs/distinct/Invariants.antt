@@ -1,9 +1,6 @@
-use Rattle.std.proofs.Common.{◌≢◌, ℕ, ◌≤◌, ◌<◌, ◌+◌, ◌-◌}
+use Rattle.std.proofs.Common.{◌≢◌, ℕ, ◌<◌, ◌+◌}
 use Rattle.nodes.specs.Nodes.{name_of}
 use Rattle.nodes.proofs.distinct.Given as goal
 
 abbrev pub invariant-loop-i : goal.invariant-loop-i
-invariant-loop-i l = (l.i ≤ l.k) × ((b : ℕ) → b < l.i → (a : ℕ) → a < b → name_of l.pairs (l.s + a) ≢ name_of l.pairs (l.s + b))
-
-abbrev pub decreases-loop-i : goal.decreases-loop-i
-decreases-loop-i l = l.k - l.i
+invariant-loop-i l = (b : ℕ) → b < l.i → (a : ℕ) → a < b → name_of l.pairs (l.s + a) ≢ name_of l.pairs (l.s + b)

@@ -1,28 +1,34 @@
-use Rattle.std.proofs.Common.{ap, ◌∙◌, suc, arith, length-set}
+use Rattle.std.proofs.Common.{List, ℕ, ap, ◌∙◌, suc, arith, length-set}
 use Rattle.theory.specs.Depth.{deeper}
 use Rattle.theory.specs.Nearest.{memo_set}
+use Rattle.order.specs.Say.{Marked}
+use Rattle.order.proofs.mark.Invariants.{Going}
 use Rattle.order.proofs.mark.Goals as goal
 
-pub returns-then-near-z-ne0 : goal.returns-then-near-z-ne0
-returns-then-near-z-ne0 c = let a = c.loop-z in record { long = a.invariant.1; kept = λ nr m e. (a.invariant.2 nr m e).0 }
+done : {f : ℕ → ℕ} {near₀ near : List ℕ} {c x v z : ℕ} → Going f near₀ near c x v z → Marked f near₀ near c x v
+done g = record { long = g.long; kept = λ nr m e. (g.kept nr m e).0 }
 
 pub loop-z-smaller : goal.loop-z-smaller
 loop-z-smaller c = let a = c.loop-z in
     let g = c.requires.given in
-    rw c.up-z.ensures.0 (omega (arith, deeper g.range g.ends a.z (omega arith) a.invariant.0))
+    rw c.up-z.ensures.0 (omega (arith, deeper g.range g.ends a.z (omega arith) a.invariant.used))
 
 pub loop-z-preserved : goal.loop-z-preserved
 loop-z-preserved c = let a = c.loop-z in
     let g = c.requires.given in
-    rw c.up-z.ensures.0 (
-      g.range.le a.z (omega arith) a.invariant.0,
-      length-set a.near a.z _ ∙ a.invariant.1,
-      λ nr m e.
-          let t = a.invariant.2 nr m e in (
+    rw c.up-z.ensures.0
+    (record {
+      used = g.range.le a.z (omega arith) a.invariant.used;
+      long = length-set a.near a.z _ ∙ a.invariant.long;
+      kept = λ nr m e.
+          let t = a.invariant.kept nr m e in (
             memo_set a.z _ t.0 (omega arith) t.1,
-            t.1 ∙ ap suc (t.0.shut a.z (omega arith) a.invariant.0 c.if-near-z-ne0.false),
-          ),
-    )
+            t.1 ∙ ap suc (t.0.shut a.z (omega arith) a.invariant.used c.if-near-z-eq0.true),
+          );
+    })
 
-pub returns : goal.returns
-returns c = let a = c.loop-z in record { long = a.invariant.1; kept = λ nr m e. (a.invariant.2 nr m e).0 }
+pub returns-after-loop-z : goal.returns-after-loop-z
+returns-after-loop-z c = done c.loop-z.invariant
+
+pub returns-else-near-z-eq0 : goal.returns-else-near-z-eq0
+returns-else-near-z-eq0 c = done c.loop-z.invariant

@@ -19,19 +19,12 @@ deny : {f : ℕ → ℕ} {l near₀ near : List ℕ} {c d i p v : ℕ} → Going
     → Found f near c p v → i + 1 < v → (nr : ℕ → ℕ) → Memo f c nr near₀ → ¬ ((i : ℕ) → i < d → nr (f (at l i)) ≤ i)
 deny {i = i} g l e a h nr m s = let t = rw (← e) at (s i l) in omega (arith, a.is nr (g.memo nr m))
 
-pub returns-then-v-i : goal.returns-then-v-i
-returns-then-v-i c = let a = c.loop-i in
+pub returns-then-from-i : goal.returns-then-from-i
+returns-then-from-i c = let a = c.loop-i in
     record {
       good = f≢;
-      bad = λ _.
-          deny a.invariant.1 c.loop-i-test.true
-          c.up-p.ensures.0 c.nearest-v.ensures c.if-v-i.true;
+      bad = λ _. deny a.invariant (omega arith) (rw c.from.ensures at c.up-p.ensures.0) c.nearest-v.ensures (omega arith);
     }
 
 pub loop-i-preserved : goal.loop-i-preserved
-loop-i-preserved c = let a = c.loop-i in (
-  omega arith,
-  step a.invariant.1 c.up-p.ensures.0
-      c.nearest-v.ensures c.if-v-i.false
-      c.mark.ensures,
-)
+loop-i-preserved c = step c.loop-i.invariant (rw c.from.ensures at c.up-p.ensures.0) c.nearest-v.ensures (omega arith) c.mark.ensures

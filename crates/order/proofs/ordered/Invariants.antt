@@ -1,4 +1,4 @@
-use Rattle.std.proofs.Common.{◌≡◌, List, ℕ, ◌≤◌, ◌<◌, ◌-◌, length}
+use Rattle.std.proofs.Common.{◌≡◌, List, ℕ, ◌≤◌, ◌<◌, length}
 use Rattle.lent.specs.Mem.{up}
 use Rattle.theory.specs.Fn.{at}
 use Rattle.theory.specs.Nearest.{Memo}
@@ -10,7 +10,4 @@ pub record Going (f : ℕ → ℕ) (l near₀ near : List ℕ) (c i : ℕ) : Typ
   pub low : (nr : ℕ → ℕ) → Memo f c nr near₀ → (j : ℕ) → j < i → nr (f (at l j)) ≤ j
 
 abbrev pub invariant-loop-i : goal.invariant-loop-i
-invariant-loop-i l = (l.i ≤ l.depth) × Going (up l.mem) l.stack l.initial.near l.near l.c l.i
-
-abbrev pub decreases-loop-i : goal.decreases-loop-i
-decreases-loop-i l = l.depth - l.i
+invariant-loop-i l = Going (up l.mem) l.entries l.initial.near l.near l.c l.i

@@ -1,13 +1,15 @@
-use Rattle.std.proofs.Common.{ℕ, ◌-◌, ◌≡◌, refl, ap, ◌∙◌, List, arith, set, rules}
-use Rattle.places.specs.Places.{places_of}
-use Rattle.places.proofs.Laws.{cutting, cutting_none, cutting_more, cutting_all}
+use Rattle.std.proofs.Common.{◌≡◌, ◌≤◌, ℕ, ◌-◌, refl, ap, sym, ◌∙◌, List, arith, length, take, drop, replicate, length-drop, length-take-le}
+use Rattle.std.proofs.Math.ListN.{length-replicate}
+use Rattle.std.proofs.lemmas.Slice.{put_mid-paste}
+use Rattle.places.proofs.Laws.{places_by, cleared}
 use Rattle.places.proofs.cut_at.Goals as goal
 
-pub loop-k-init : goal.loop-k-init
-loop-k-init c = (omega arith, omega arith, refl, cutting_none _ _)
-
-pub loop-k-preserved : goal.loop-k-preserved
-loop-k-preserved c = let a = c.args in let inv = c.loop-k.invariant in (omega arith, omega arith, search rules, ap (λ (x : List ℕ). set x (c.loop-k.k - 1) 0) inv.3 ∙ cutting_more a.s.now a.d c.loop-k.k (omega arith) (omega arith) (omega arith))
+-- as many zeros as the part is long
+zeros : (s t : List ℕ) (i n : ℕ) → n ≤ length (drop i s) → t ≡ replicate (length (take n (drop i s))) 0 → t ≡ replicate n 0
+zeros s t i n le e = e ∙ ap (λ (k : ℕ). replicate k 0) (length-take-le n (drop i s) le)
 
 pub returns : goal.returns
-returns c = let a = c.args in let inv = c.loop-k.invariant in let e : c.loop-k.k ≡ a.i = omega arith in (refl, ap (λ (x : List ℕ). places_of x a.i) (inv.3 ∙ ap (λ (j : ℕ). cutting a.s.now a.d j) e) ∙ cutting_all a.s.now a.d a.i (omega arith) (omega arith))
+returns c =
+    let e = zeros c.args.s.now c.fill.new.self c.args.i (c.args.d - c.args.i) (omega (arith, length-drop c.args.i c.args.s.now)) (c.fill.ensures.after (λ y e. e)) in
+    let l = sym (length-replicate {A = ℕ} (c.args.d - c.args.i) 0) in
+    (refl, places_by c.args.i (put_mid-paste c.args.i (c.args.d - c.args.i) c.args.s.now c.fill.new.self (replicate (c.args.d - c.args.i) 0) (c.args.d - c.args.i) e refl l) (cleared c.args.s.now c.args.d c.args.i (omega arith) (omega arith)))

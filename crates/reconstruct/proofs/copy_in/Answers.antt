@@ -1,6 +1,6 @@
 use Rattle.reconstruct.proofs.Laws as laws
-use Rattle.std.proofs.Common.{arith}
 use Rattle.reconstruct.proofs.copy_in.Goals as goal
 
-pub returns : goal.returns
-returns c = (c.next-n.ensures, λ l m p q x. laws.copied_in _ _ l m p q x _ _ _ (omega arith) c.appropriate_place_for_insertion-p.ensures c.copy_element.ensures c.attach.ensures)
+pub returns-clause-outcome : goal.returns-clause-outcome
+returns-clause-outcome c =
+    laws.copied_in _ _ _ _ _ _ _ _ _ _ c.requires.nodes c.usual_place-p.ensures c.next-n.ensures c.copy_element.ensures c.attach.ensures c.with_nodes-b.ensures

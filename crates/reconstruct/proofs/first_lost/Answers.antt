@@ -1,12 +1,17 @@
-use Rattle.reconstruct.proofs.Laws as laws
 use Rattle.std.proofs.Common.{arith}
+use Rattle.places.specs.Places.{places_of}
+use Rattle.places.proofs.Laws.{of_whole}
+use Rattle.reconstruct.proofs.Laws as laws
 use Rattle.reconstruct.proofs.first_lost.Goals as goal
 
-pub returns-then-is_marker_or_open : goal.returns-then-is_marker_or_open
-returns-then-is_marker_or_open c = (omega arith, laws.rewind_stop _ _ _ (omega arith) _ c.loop-k.invariant.1 (omega arith) c.is_marker_or_open.ensures c.if-is_marker_or_open.true)
+pub overflow_add-result : goal.overflow_add-result
+overflow_add-result c =
+    let list = places_of c.args.b.now.list.now c.args.b.now.core.counts.list in
+    let lt = laws.lost_lt _ list c.last_kept.ensures c.in-Some.is in
+    omega (arith, lt, c.requires.list.all, of_whole _ _ c.requires.list)
 
-pub loop-k-preserved : goal.loop-k-preserved
-loop-k-preserved c = (omega arith, laws.rewind_on _ _ _ (omega arith) _ c.loop-k.invariant.1 (omega arith) c.is_marker_or_open.ensures c.if-is_marker_or_open.false)
-
-pub returns : goal.returns
-returns c = (omega arith, laws.rewind_end _ _ _ (omega arith) _ c.loop-k.invariant.1 (omega arith))
+pub returns-in-Some-clause-most : goal.returns-in-Some-clause-most
+returns-in-Some-clause-most c =
+    let list = places_of c.args.b.now.list.now c.args.b.now.core.counts.list in
+    let lt = laws.lost_lt _ list c.last_kept.ensures c.in-Some.is in
+    omega (arith, lt, c.requires.list.all)

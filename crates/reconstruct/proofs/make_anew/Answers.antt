@@ -1,15 +1,14 @@
+use Rattle.std.proofs.Common.{sym}
+use Rattle.places.proofs.Laws.{at_of}
 use Rattle.reconstruct.proofs.Laws as laws
-use Rattle.std.proofs.Common.{◌+◌}
 use Rattle.reconstruct.proofs.make_anew.Goals as goal
 
-pub returns-clause-counts : goal.returns-clause-counts
-returns-clause-counts c = let a = c.args in
-    let r = c.requires.i_lt_list in
-    let p = c.push-size in
-    laws.counts_after a.core (a.core.counts.nodes + 1) p.result p.ensures.0 c.with_nodes.ensures c.with_depth.ensures
+pub push-size-requires : goal.push-size-requires
+push-size-requires c = laws.free_place _ _ _ (laws.with_nodes_stack _ _ _ _ c.copy_in-n.ensures.outcome) c.requires.places
+
+pub swap_at-requires : goal.swap_at-requires
+swap_at-requires c = laws.in_list _ _ _ _ (laws.with_nodes_list _ _ _ _ c.copy_in-n.ensures.outcome) c.requires.list c.requires.entry
 
 pub returns-clause-outcome : goal.returns-clause-outcome
-returns-clause-outcome c = let a = c.args in
-    let r = c.requires.i_lt_list in
-    let p = c.push-size in
-    λ m p' q x. laws.anew_done a.h.now a.nodes.now a.list.now m p' q x a.core a.i p.result _ _ r.2 r.0 c.copy_in-n.ensures.0 (c.copy_in-n.ensures.1 a.list.now m p' q x) p.ensures.1 c.swap_at.ensures c.with_nodes.ensures c.with_depth.ensures
+returns-clause-outcome c =
+    laws.anew_done _ _ _ _ _ _ _ _ _ _ _ _ _ _ _ (sym (at_of _ _ _ c.requires.entry)) c.copy_in-n.ensures.number c.copy_in-n.ensures.outcome c.push-size.ensures.1 c.swap_at.ensures c.with_depth-b.ensures

@@ -1,12 +1,12 @@
-use Rattle.std.proofs.Common.{sym, ◌∙◌, arith}
+use Rattle.std.proofs.Common.{◌-◌, ◌+◌, sym, ◌∙◌, arith}
 use Rattle.records.proofs.Laws.{skip_bad, skip_more, skip_none}
 use Rattle.records.proofs.skip_numbers.Goals as goal
 
-pub returns-in_default : goal.returns-in_default
-returns-in_default c = skip_bad c.args.s.now c.loop-left.p c.loop-left.left c.loop-left-test.true (sym c.number.ensures ∙ c.in_default.is) ∙ c.loop-left.invariant
+pub returns-in_err-next : goal.returns-in_err-next
+returns-in_err-next c = c.from_residual.ensures ∙ skip_bad c.args.s.now c.loop.p (c.args.count - c.loop.counter) (c.args.count - (c.loop.counter + 1)) (omega arith) (sym c.number.ensures ∙ c.in_err-next.was) ∙ c.loop.invariant
 
-pub loop-left-preserved : goal.loop-left-preserved
-loop-left-preserved c = skip_more c.args.s.now c.loop-left.p c.loop-left.left c.in-Number.value c.in-Number.next c.loop-left-test.true (sym c.number.ensures ∙ c.in-Number.is) ∙ c.loop-left.invariant
+pub loop-preserved : goal.loop-preserved
+loop-preserved c = skip_more c.args.s.now c.loop.p (c.args.count - c.loop.counter) (c.args.count - (c.loop.counter + 1)) (omega arith) (sym c.number.ensures ∙ c.in_ok-next.was) ∙ c.loop.invariant
 
 pub returns : goal.returns
-returns c = skip_none c.args.s.now c.loop-left.p c.loop-left.left (omega arith) ∙ c.loop-left.invariant
+returns c = skip_none c.args.s.now c.loop.p (c.args.count - c.loop.counter) (omega arith) ∙ c.loop.invariant

@@ -1,42 +1,42 @@
-use Rattle.std.proofs.Common.{◌≡◌, refl, ◌∙◌, ◌≢◌, List, ℕ, ◌<◌, ◌+◌, ◌-◌, arith, add-one}
-use Rattle.theory.specs.Says.{says_no, says_eqb}
+use Rattle.std.proofs.Common.{◌≡◌, refl, ◌∙◌, List, ℕ, suc, ◌≤◌, ◌+◌, ◌-◌, arith, Some, None, nat_eq}
+use Rattle.theory.specs.Says.{Says, says_no, says_eqb}
 use Rattle.texts.specs.Texts.{Texts, Going, going_none, going_few, going_more, deny_node, done_all, deny_all}
 use Rattle.texts.specs.Say.{Texted}
+use Rattle.texts.proofs.every.Goals.{else-loop-n-test, then-loop-n-test+in-Some+else-n-c}
 use Rattle.texts.proofs.every.Goals as goal
 
-step : {m q seen seen' : List ℕ} {u n t r : ℕ} → Going m q seen u n t → Texted m q seen seen' u (n + 1) r → r ≢ 0
-    → Going m q seen' u (n + 1) (t + r - 1)
-step g a h = rw add-one (going_more g (rw add-one at (a.good h)))
+-- the nodes up to i are done, and now n
+step : {m q seen seen' : List ℕ} {u i n t k : ℕ} → Going m q seen u i t → n ≡ suc i → Texted m q seen seen' u n (Some k)
+    → Going m q seen' u n (t + k)
+step {t = t} {k = k} g e a =
+    let s : t + k ≡ t + (k + 1) - 1 = omega arith in
+    rw (e, s) (going_more g (rw e at (a.good k refl)))
 
-deny : {m q seen seen' : List ℕ} {c u n t r : ℕ} → Going m q seen u n t → n < c → Texted m q seen seen' u (n + 1) r → r ≡ 0
+deny : {m q seen seen' : List ℕ} {c u i n t : ℕ} → Going m q seen u i t → n ≡ suc i → n ≤ c → Texted m q seen seen' u n None
     → ¬ Texts m q c u
-deny g l a h = deny_node g l (rw add-one at (a.bad h))
+deny g e l a = deny_node g (omega arith) (rw e at (a.bad refl))
+
+done : {m q seen : List ℕ} {c u i t : ℕ} → Going m q seen u i t → i ≡ c → Says (Texts m q c u) (nat_eq t u)
+done {u = u} {t = t} g e = let h = rw e at g in says_eqb t u (λ s. done_all h s) (λ s. deny_all h s)
 
 pub loop-n-init : goal.loop-n-init
 loop-n-init c = (omega arith, refl, going_none _ _ _ _ c.requires.unseen)
 
-pub returns-then-r-eq0 : goal.returns-then-r-eq0
-returns-then-r-eq0 c = says_no
-    (deny c.loop-n.invariant.2
-    c.loop-n-test.true c.text-r.ensures c.if-r-eq0.true)
+pub returns-in_default : goal.returns-in_default
+returns-in_default c = says_no (deny c.loop-n.invariant.2 (omega arith) c.loop-n-test.true c.in_default.ensures)
 
 pub overflow_add-t : goal.overflow_add-t
-overflow_add-t c = omega (
-  arith,
-  going_few c.loop-n.invariant.2,
-  c.text-r.ensures.small,
-)
+overflow_add-t c = omega (arith, going_few (step c.loop-n.invariant.2 (omega arith) c.in-Some.ensures))
 
 pub loop-n-preserved : goal.loop-n-preserved
-loop-n-preserved c = (
+loop-n-preserved c = let e : c.loop-n.n + 1 - 1 ≡ c.loop-n.n = omega arith in (
   omega arith,
-  c.text-r.ensures.long ∙ c.loop-n.invariant.1,
-  step c.loop-n.invariant.2 c.text-r.ensures
-      c.if-r-eq0.false,
+  c.text.ensures.long ∙ c.loop-n.invariant.1,
+  rw e (step c.loop-n.invariant.2 (omega arith) c.in-Some.ensures),
 )
 
 pub returns : goal.returns
-returns c = let a = c.loop-n in
-    let e : a.n ≡ c.args.c = omega (arith, c.loop-n-test.false) in
-    let g = rw e at a.invariant.2 in
-    says_eqb a.t c.args.u (λ q. done_all g q) (λ s. deny_all g s)
+returns c = elim c.loop-n-test.branch [
+  | else-loop-n-test w ↦ rw w.t-is (done c.loop-n.invariant.2 (omega arith))
+  | then-loop-n-test+in-Some+else-n-c w ↦ rw w.t-is (done (step c.loop-n.invariant.2 (omega arith) w.in-Some.ensures) (omega arith))
+]

@@ -1,9 +1,6 @@
-use Rattle.std.proofs.Common.{◌≤◌, ◌-◌, ◌+◌, ◌≡◌, length}
+use Rattle.std.proofs.Common.{◌-◌, ◌+◌, ◌≡◌}
 use Rattle.standard.specs.Pairs.{pairs_in, stored}
 use Rattle.insertion.proofs.pairs.store.Given as goal
 
 abbrev pub invariant-loop-i : goal.invariant-loop-i
-invariant-loop-i l = (l.i ≤ l.count) × (length l.pairs ≡ length l.initial.pairs) × (stored l.initial.pairs l.used (pairs_in l.input l.from l.count) ≡ stored l.pairs (l.used + l.i) (pairs_in l.input l.at (l.count - l.i)))
-
-abbrev pub decreases-loop-i : goal.decreases-loop-i
-decreases-loop-i l = l.count - l.i
+invariant-loop-i l = stored l.fn.pairs l.used (pairs_in l.attributes.input.now l.attributes.from l.attributes.count) ≡ stored l.pairs (l.used + l.i) (pairs_in l.attributes.input.now l.at (l.attributes.count - l.i))

@@ -1,20 +1,15 @@
-use Rattle.stacks.proofs.StackLaws as laws
-use Rattle.stacks.specs.Walk.{names_of, wanted_in}
 use Rattle.std.proofs.Common.{arith}
-use Rattle.state.specs.Fields.{set_depth}
+use Rattle.stacks.proofs.StackLaws as laws
 use Rattle.stacks.proofs.close.close_the_cell.Goals as goal
 
-pub cut_at-size-requires : goal.cut_at-size-requires
-cut_at-size-requires c = let lt = laws.scope_lt _ _ _ _ _ (omega arith) c.in_scope.ensures c.in-At.is in (omega arith, omega arith)
+pub pop_from-requires-clause-open : goal.pop_from-requires-clause-open
+pop_from-requires-clause-open c = let lt = laws.scope_lt _ _ _ _ _ _ c.requires.whole c.cell_in_scope.ensures c.in-Some.is in omega arith
 
 pub clear-requires : goal.clear-requires
-unfolding set_depth
-clear-requires c = rw c.with_depth.ensures c.requires.1
+clear-requires c = laws.list_whole _ _ _ c.requires.list c.pop_from.ensures.outcome
 
-pub returns-in-At : goal.returns-in-At
-unfolding names_of wanted_in
-returns-in-At c = λ m p q x. laws.closed_cell_done _ _ _ m p q x _ _ _ c.requires.0 c.in_scope.ensures c.in-At.is c.cut_at-size.ensures.1 c.with_depth.ensures (c.clear.ensures _ _ m p q x)
+pub returns-in-Some-clause-outcome : goal.returns-in-Some-clause-outcome
+returns-in-Some-clause-outcome c = laws.closed_cell_done _ c.requires.whole c.cell_in_scope.ensures c.in-Some.is c.pop_from.ensures.outcome c.clear.ensures.outcome
 
-pub returns-in-Nothing : goal.returns-in-Nothing
-unfolding names_of wanted_in
-returns-in-Nothing c = λ m p q x. laws.closed_cell_none _ _ _ m p q x _ c.in_scope.ensures c.in-Nothing.is
+pub returns-in-None-clause-outcome : goal.returns-in-None-clause-outcome
+returns-in-None-clause-outcome c = laws.closed_cell_none _ c.cell_in_scope.ensures c.in-None.is

@@ -1,12 +1,16 @@
-use Rattle.std.proofs.Common.{rules, sym, ◌∙◌, arith}
+use Rattle.places.proofs.Laws.{of_whole}
+use Rattle.std.proofs.Common.{arith}
 use Rattle.stacks.proofs.StackLaws as laws
 use Rattle.stacks.proofs.implied.pop_implied.Goals as goal
 
-pub returns : goal.returns
-returns c = laws.while_none _ _ _ (omega arith) ∙ sym c.loop-k.invariant.2 ∙ sym (laws.ends_are _ _ _ _ _)
+pub overflow_add-i : goal.overflow_add-i
+overflow_add-i c = let lt = laws.kept_lt _ _ _ _ c.requires c.last_kept.ensures c.in-Some.is in omega (arith, lt, of_whole _ _ c.requires)
 
-pub returns-then-not-is_implied : goal.returns-then-not-is_implied
-returns-then-not-is_implied c = laws.while_stop _ _ _ (omega arith) (sym c.is_implied.ensures ∙ c.if-not-is_implied.true) ∙ sym c.loop-k.invariant.2 ∙ sym (laws.ends_are _ _ _ _ _)
+pub pop_from-requires-clause-open : goal.pop_from-requires-clause-open
+pop_from-requires-clause-open c = let lt = laws.kept_lt _ _ _ _ c.requires c.last_kept.ensures c.in-Some.is in omega arith
 
-pub loop-k-preserved : goal.loop-k-preserved
-loop-k-preserved c = (search rules, search rules, c.loop-k.invariant.2 ∙ laws.while_turn _ _ _ _ (omega arith) (sym c.is_implied.ensures ∙ c.if-not-is_implied.false) c.cut_at-k.ensures.0 c.cut_at-k.ensures.1)
+pub returns-in-Some-clause-outcome : goal.returns-in-Some-clause-outcome
+returns-in-Some-clause-outcome c = rw (← laws.ends_some _ _ _ _ c.requires c.last_kept.ensures c.in-Some.is) c.pop_from.ensures.outcome
+
+pub returns-in-None-clause-outcome : goal.returns-in-None-clause-outcome
+returns-in-None-clause-outcome c = rw (← laws.ends_none _ _ _ _ c.requires c.last_kept.ensures c.in-None.is) c.pop_from-in-None.ensures.outcome

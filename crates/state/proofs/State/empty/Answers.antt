@@ -1,6 +1,5 @@
-use Rattle.std.proofs.Common.{ℕ, ◌≡◌, List, replicate}
+use Rattle.std.proofs.Common.{ℕ, ◌≡◌, List, replicate, None}
 use Rattle.state.specs.declared.State.{State}
-use Rattle.state.specs.declared.Context.TheVariants.{None}
 use Rattle.state.specs.Fields.{empty_state}
 use Rattle.state.proofs.State.empty.Goals as goal
 

@@ -1,7 +1,0 @@
-use Rattle.std.proofs.Common.{◌∙◌}
-use Rattle.names.specs.Sets.{the_button_scope}
-use Rattle.names.proofs.InWords.{right}
-use Rattle.names.proofs.sets.in_button_scope.Goals as goal
-
-pub returns : goal.returns
-returns c = c.has.ensures ∙ right the_button_scope c.args.ns c.args.n
