@@ -161,7 +161,8 @@ fn element_in(b: &mut Builder<'_>, t: Tag, pairs: Attributes<'_>) -> Node
     let n = Node(lent::room::next(used));
     makers::make::make_element(b.nodes, n, t);
     place::attach(b.nodes, p, n);
-    pairs::store(b.pairs, stored, pairs);
+    let count = usize::from(pairs.count);
+    pairs::store(b.pairs, stored, pairs.input, pairs.from, count);
     b.core = b
         .core
         .with_nodes(used + t.nodes())
