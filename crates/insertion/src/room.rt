@@ -24,29 +24,46 @@ pub fn free_pairs(b: &Builder<'_>) -> usize
     lent::room::free_pairs(b.pairs, b.core.counts.pairs)
 }
 
+// The next node, when the first `used` of `nodes` are used.
+#[tactic(auto, using(lent::proofs::Lowest::fresh_is, crate::proofs::Laws::nodes_left))]
+pub(crate) fn next_node_on(nodes: &[u8], used: usize) -> Result<Node, Refusal>
+    ensures number { IfOk result (λ n. n.0 ≡ used + 1) }
+    ensures free { OnOk result (def.free_nodes nodes.now used ≢ 0) }
+    ensures full { IfErr result (λ e. (e ≡ refusals.NodesFull) × (def.free_nodes nodes.now used ≡ 0)) }
+{
+    if lent::room::free_nodes(nodes, used) == 0 {
+        return Err(Refusal::NodesFull);
+    }
+    Ok(Node(lent::room::next(used)))
+}
+
 /// The next node: the lowest number that is free. `NodesFull` where none is.
-#[tactic(auto, using(lent::proofs::Lowest::fresh_is))]
 pub fn next_node(b: &Builder<'_>) -> Result<Node, Refusal>
     ensures number { IfOk result (λ n. n.0 ≡ (full_of b.now).nodes.used + 1) }
     ensures free { OnOk result (def.free_nodes (full_of b.now).nodes.mem (full_of b.now).nodes.used ≢ 0) }
     ensures full { IfErr result (λ e. (e ≡ refusals.NodesFull) × (def.free_nodes (full_of b.now).nodes.mem (full_of b.now).nodes.used ≡ 0)) }
 {
-    if free_nodes(b) == 0 {
-        return Err(Refusal::NodesFull);
+    next_node_on(b.nodes, b.core.counts.nodes)
+}
+
+// The next text piece, when the first `used` of `pieces` are used.
+#[tactic(auto, using(lent::proofs::Lowest::fresh_is, crate::proofs::Laws::pieces_left))]
+pub(crate) fn next_piece_on(pieces: &[u8], used: usize) -> Result<u16, Refusal>
+    ensures number { IfOk result (λ i. i ≡ used + 1) }
+    ensures free { OnOk result (def.free_pieces pieces.now used ≢ 0) }
+    ensures full { IfErr result (λ e. (e ≡ refusals.PiecesFull) × (def.free_pieces pieces.now used ≡ 0)) }
+{
+    if lent::room::free_pieces(pieces, used) == 0 {
+        return Err(Refusal::PiecesFull);
     }
-    Ok(Node(lent::room::next(b.core.counts.nodes)))
+    Ok(lent::room::next(used))
 }
 
 /// The next text piece: the lowest number that is free. `PiecesFull` where none is.
-#[tactic(auto, using(lent::proofs::Lowest::fresh_is, crate::proofs::Laws::pieces_left))]
 pub fn next_piece(b: &Builder<'_>) -> Result<u16, Refusal>
     ensures number { IfOk result (λ i. i ≡ (full_of b.now).pieces.used + 1) }
     ensures free { OnOk result (def.free_pieces (full_of b.now).pieces.mem (full_of b.now).pieces.used ≢ 0) }
     ensures full { IfErr result (λ e. (e ≡ refusals.PiecesFull) × (def.free_pieces (full_of b.now).pieces.mem (full_of b.now).pieces.used ≡ 0)) }
 {
-    let used = b.core.counts.pieces;
-    if lent::room::free_pieces(b.pieces, used) == 0 {
-        return Err(Refusal::PiecesFull);
-    }
-    Ok(lent::room::next(used))
+    next_piece_on(b.pieces, b.core.counts.pieces)
 }

@@ -1,6 +1,6 @@
 // The appropriate place for inserting a node (13.2.6.1), and what is done there.
-ghost use Rattle.std.specs.Prelude.{◌≡◌, ◌<◌};
-ghost use Rattle.places.specs.Places.{Whole, last_with, never};
+ghost use Rattle.std.specs.Prelude.{◌≡◌, ◌<◌, ◌≤◌, length};
+ghost use Rattle.places.specs.Places.{Whole, places_of, last_with, never};
 ghost use Rattle.state.specs.Builder.{full_of};
 ghost use Rattle.standard.specs.Place.{end_of, before_table, table_place, template_or_table, is_foster_stop, foster_place, appropriate_place, attached, sibling_before, text_before};
 ghost use Rattle.standard.specs.Insertion.{usual_place};
@@ -34,30 +34,30 @@ fn before_table(nodes: &[u8], t: Node) -> Place
 }
 
 // Entry i of the stack is the last table.
-fn table_place(b: &Builder<'_>, i: usize) -> Place
-    requires open { i < (full_of b.now).stack.size }
-    requires whole { Whole (full_of b.now).stack }
-    ensures { result ≡ table_place (full_of b.now).nodes.mem (full_of b.now).stack i }
+fn table_place(nodes: &[u8], h: &[u16], depth: usize, i: usize) -> Place
+    requires open { i < depth }
+    requires whole { depth ≤ length h.now }
+    ensures { result ≡ table_place nodes.now (places_of h.now depth) i }
 {
-    let t = b.stack[i];
-    if lent::get(b.nodes, Node(t), Node::PARENT) == Node::NONE {
+    let t = h[i];
+    if lent::get(nodes, Node(t), Node::PARENT) == Node::NONE {
         let up = i.saturating_sub(1);
-        return end_of(b.nodes, Node(b.stack[up]));
+        return end_of(nodes, Node(h[up]));
     }
-    before_table(b.nodes, Node(t))
+    before_table(nodes, Node(t))
 }
 
 // Entry i of the stack is the last template or table.
-fn template_or_table(b: &Builder<'_>, i: usize) -> Place
-    requires open { i < (full_of b.now).stack.size }
-    requires whole { Whole (full_of b.now).stack }
-    ensures { result ≡ template_or_table (full_of b.now).nodes.mem (full_of b.now).stack i }
+fn template_or_table(nodes: &[u8], h: &[u16], depth: usize, i: usize) -> Place
+    requires open { i < depth }
+    requires whole { depth ≤ length h.now }
+    ensures { result ≡ template_or_table nodes.now (places_of h.now depth) i }
 {
-    let n = b.stack[i];
-    if html::is_html(b.nodes, Node(n), tag::TEMPLATE) {
-        return end_of(b.nodes, Node(n));
+    let n = h[i];
+    if html::is_html(nodes, Node(n), tag::TEMPLATE) {
+        return end_of(nodes, Node(n));
     }
-    table_place(b, i)
+    table_place(nodes, h, depth, i)
 }
 
 #[tactic(auto, unfolding(standard::specs::Place::is_foster_stop))]
@@ -69,43 +69,55 @@ fn is_foster_stop(nodes: &[u8], n: Node) -> bool
 
 // The last template or table of the stack.
 #[tactic(auto, unfolding(places::specs::Places::last_with))]
-fn foster_stop(b: &Builder<'_>) -> Option<usize>
-    requires { Whole (full_of b.now).stack }
-    ensures { result ≡ last_with (is_foster_stop (full_of b.now).nodes.mem) never (full_of b.now).stack }
+fn foster_stop(nodes: &[u8], h: &[u16], depth: usize) -> Option<usize>
+    requires { depth ≤ length h.now }
+    ensures { result ≡ last_with (is_foster_stop nodes.now) never (places_of h.now depth) }
 {
-    places::last_with(
-        &b.stack[..b.core.depth],
-        |n| is_foster_stop(b.nodes, Node(n)),
-        |_| false,
-    )
+    places::last_with(&h[..depth], |n| is_foster_stop(nodes, Node(n)), |_| false)
 }
 
 #[tactic(auto, unfolding(standard::specs::Place::foster_place, standard::specs::Place::foster_at))]
-fn foster_place(b: &Builder<'_>) -> Place
-    requires some { 0 < (full_of b.now).stack.size }
-    requires whole { Whole (full_of b.now).stack }
-    ensures { result ≡ foster_place (full_of b.now).nodes.mem (full_of b.now).stack }
+fn foster_place(nodes: &[u8], h: &[u16], depth: usize) -> Place
+    requires some { 0 < depth }
+    requires whole { depth ≤ length h.now }
+    ensures { result ≡ foster_place nodes.now (places_of h.now depth) }
 {
-    match foster_stop(b) {
-        Some(i) => template_or_table(b, i),
-        None => end_of(b.nodes, Node(b.stack[0])),
+    match foster_stop(nodes, h, depth) {
+        Some(i) => template_or_table(nodes, h, depth, i),
+        None => end_of(nodes, Node(h[0])),
     }
 }
 
-/// The appropriate place for inserting a node, with `target` as the override target: 13.2.6.1, steps 2 and 3.
+/// The appropriate place for inserting a node, for a caller that has `nodes` and the stack to read alone: `h`, of which the first `depth`
+/// places are in use. `foster` is 1 where foster parenting is enabled, and `target` is the override target: 13.2.6.1, steps 2 and 3.
 #[tactic(auto, unfolding(standard::specs::Place::appropriate_place))]
+pub fn appropriate_place_on(
+    nodes: &[u8],
+    h: &[u16],
+    depth: usize,
+    foster: usize,
+    target: Node,
+) -> Place
+    requires some { 0 < depth }
+    requires whole { depth ≤ length h.now }
+    ensures { result ≡ appropriate_place nodes.now (places_of h.now depth) foster target.0 }
+{
+    if foster != 1 {
+        return end_of(nodes, target);
+    }
+    if html::is_foster_target(nodes, target) {
+        return foster_place(nodes, h, depth);
+    }
+    end_of(nodes, target)
+}
+
+/// The appropriate place for inserting a node, with `target` as the override target: 13.2.6.1, steps 2 and 3.
 pub fn appropriate_place_for_insertion(b: &Builder<'_>, target: Node) -> Place
     requires some { 0 < (full_of b.now).stack.size }
     requires whole { Whole (full_of b.now).stack }
     ensures { result ≡ appropriate_place (full_of b.now).nodes.mem (full_of b.now).stack (full_of b.now).flags.foster target.0 }
 {
-    if b.core.flags.foster != 1 {
-        return end_of(b.nodes, target);
-    }
-    if html::is_foster_target(b.nodes, target) {
-        return foster_place(b);
-    }
-    end_of(b.nodes, target)
+    appropriate_place_on(b.nodes, b.stack, b.core.depth, b.core.flags.foster, target)
 }
 
 /// The appropriate place with the current node as the target: what a call without a target of its own takes.

@@ -5,8 +5,8 @@ use Rattle.location.proofs.place.table_place.Goals as goal
 
 pub returns-then-get-eq-NONE : goal.returns-then-get-eq-NONE
 returns-then-get-eq-NONE c =
-    let s = c.args.b.now.stack.now in
-    let up = ap (λ (i : ℕ). get_or s i 0) c.saturating_sub-up.ensures ∙ sym (at_of s c.args.b.now.core.depth (c.args.i - 1) (omega arith)) in
+    let s = c.args.h.now in
+    let up = ap (λ (i : ℕ). get_or s i 0) c.saturating_sub-up.ensures ∙ sym (at_of s c.args.depth (c.args.i - 1) (omega arith)) in
     c.end_of.ensures ∙ laws.table_loose _ _ _ (sym (at_of _ _ _ (omega arith))) c.get.ensures c.if-get-eq-NONE.true up
 
 pub returns : goal.returns
