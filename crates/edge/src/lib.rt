@@ -11,8 +11,9 @@ use state::builder::Builder;
 use state::lent::Seen;
 use state::{Context, Core, Stack, State};
 
-// Whether the state is sound. The stack's places stand in an array in a `State` and are lent in a `Builder`, so they come beside the rest.
-fn check_on(h: &[u16], core: Core, context: Option<Context>, seen: Seen<'_>) -> bool
+/// Whether the state is sound, for a caller that has all that is lent to read alone: `check` without a builder. The stack's places, `h`, stand
+/// in an array in a `State` and are lent in a `Builder`, so they come beside the rest. Yes exactly where every rule of docs/LAYOUT.md holds.
+pub fn check_on(h: &[u16], core: Core, context: Option<Context>, seen: Seen<'_>) -> bool
     ensures { Says (SoundFull (full h.now core context seen.entry.nodes.now seen.entry.list.now seen.entry.modes.now seen.entry.pieces.now seen.entry.pairs.now)) result }
 {
     if h.len() != Stack::PLACES {

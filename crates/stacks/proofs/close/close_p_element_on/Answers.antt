@@ -1,0 +1,11 @@
+use Rattle.places.proofs.Laws.{whole_of}
+use Rattle.std.proofs.Common.{arith}
+use Rattle.stacks.proofs.StackLaws as laws
+use Rattle.stacks.proofs.close.close_p_element_on.Goals as goal
+
+pub cut_at-requires : goal.cut_at-requires
+cut_at-requires c = let lt = laws.scope_lt _ _ _ _ _ _ (whole_of _ _ c.requires) c.named_in_scope_on.ensures c.in-Some.is in (omega arith, omega arith)
+
+pub returns-in-Some : goal.returns-in-Some
+returns-in-Some c = λ l m p q x.
+    laws.closed_p_done _ (whole_of _ _ c.requires) c.named_in_scope_on.ensures c.in-Some.is (laws.stack_cut _ _ l m p q x _ _ _ _ c.cut_at.ensures.1 c.with_depth.ensures)
