@@ -38,12 +38,16 @@ pub(crate) fn next_node_on(nodes: &[u8], used: usize) -> Result<Node, Refusal>
 }
 
 /// The next node: the lowest number that is free. `NodesFull` where none is.
+#[tactic(auto, using(lent::proofs::Lowest::fresh_is))]
 pub fn next_node(b: &Builder<'_>) -> Result<Node, Refusal>
     ensures number { IfOk result (λ n. n.0 ≡ (full_of b.now).nodes.used + 1) }
     ensures free { OnOk result (def.free_nodes (full_of b.now).nodes.mem (full_of b.now).nodes.used ≢ 0) }
     ensures full { IfErr result (λ e. (e ≡ refusals.NodesFull) × (def.free_nodes (full_of b.now).nodes.mem (full_of b.now).nodes.used ≡ 0)) }
 {
-    next_node_on(b.nodes, b.core.counts.nodes)
+    if free_nodes(b) == 0 {
+        return Err(Refusal::NodesFull);
+    }
+    Ok(Node(lent::room::next(b.core.counts.nodes)))
 }
 
 // The next text piece, when the first `used` of `pieces` are used.

@@ -5,11 +5,11 @@ ghost use Rattle.lent.specs.Mem.{field, SPACE, NAME, MARK};
 ghost use Rattle.theory.specs.Says.{Says};
 ghost use Rattle.nodes.specs.Nodes.{Template, Clear, Partner, Absent, Distinct, Span, Tag, Ties, Rooted, Element, Contents, Document, Comment, Kind};
 
+pub mod number;
+
+use crate::number::SPARE;
 use lent::{Node, Pair, wide};
 use names::Namespace;
-
-// The first field of a node that no kind uses.
-const SPARE: usize = 14;
 
 // Whether x is an HTML `template`.
 fn is_template(mem: &[u8], x: usize) -> bool

@@ -18,9 +18,10 @@ pub fn number(s: &[u8], i: usize) -> usize {
     usize::from(word(s, i))
 }
 
-/// So many slots of a region, and no more than are lent, from the word `from` on; the answer is the word after them.
+/// So many slots of a region, and no more than its largest size has, from the word `from` on; the answer is the word after them. A slot that
+/// is not lent is passed over.
 pub fn slots(s: &[u8], from: usize, of: Region, mem: &mut [u8], count: usize) -> usize {
-    let total = of.words(count.min(of.slots(mem)));
+    let total = of.words(count);
     for k in 0..total {
         of.put(mem, k, word(s, from.saturating_add(k)));
     }

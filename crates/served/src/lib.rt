@@ -29,14 +29,20 @@ fn byte(s: &[u8], i: usize) -> u8 {
     s.get(i).copied().unwrap_or(0)
 }
 
+// So many slots of a region, and no more than are lent; the answer is the word after them.
+fn slots(s: &[u8], from: usize, of: Region, mem: &mut [u8], count: usize) -> usize {
+    let held = count.min(of.slots(mem));
+    load::slots(s, from, of, mem, held)
+}
+
 // The lent regions from the words; the answer is how many words there were.
 fn fill(s: &[u8], lent: &mut Lent<'_>) -> usize {
     let stack = load::RECORD + load::number(s, 10).min(Stack::PLACES);
-    let nodes = load::slots(s, stack, Region::Nodes, lent.nodes, load::number(s, 5));
+    let nodes = slots(s, stack, Region::Nodes, lent.nodes, load::number(s, 5));
     let list = load::places(s, nodes, lent.list, load::number(s, 6));
     let modes = load::places(s, list, lent.modes, load::number(s, 7));
-    let pieces = load::slots(s, modes, Region::Pieces, lent.pieces, load::number(s, 8));
-    load::slots(s, pieces, Region::Pairs, lent.pairs, load::number(s, 9))
+    let pieces = slots(s, modes, Region::Pieces, lent.pieces, load::number(s, 8));
+    slots(s, pieces, Region::Pairs, lent.pairs, load::number(s, 9))
 }
 
 // A state check, after which that is the answer.

@@ -27,7 +27,9 @@ pub fn marker(b: &mut Builder<'_>) -> Result<(), Refusal>
     Err(Refusal::PlacesFull)
 }
 
-fn cleared_to(list: &mut [u16], count: usize) -> usize
+/// The same of a list that is lent alone, of which the first `count` places are in use: its last marker goes with all entries after it, or
+/// all entries where there is no marker. The new count.
+pub fn cleared_to(list: &mut [u16], count: usize) -> usize
     requires { count ≤ length list.old }
     ensures { places_of list.new result ≡ cleared_at (place_of (places_of list.old count) 65535) (places_of list.old count) }
 {

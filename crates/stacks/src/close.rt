@@ -3,12 +3,11 @@
 ghost use Rattle.std.specs.Prelude.{◌≡◌, ◌≤◌, ℕ, List, Option, length};
 ghost use Rattle.names.specs.Set.{names_of};
 ghost use Rattle.names.specs.Sets.{TableScope};
-ghost use Rattle.places.specs.Places.{Whole, cut, place_of, places_of};
+ghost use Rattle.places.specs.Places.{Whole, cut, places_of};
 ghost use Rattle.records.specs.Refusal.{answer_number, value_or};
 ghost use Rattle.state.specs.Builder.{SameLoans, full_of};
 ghost use Rattle.state.specs.declared.Context.{Context};
 ghost use Rattle.state.specs.Full.{full, result_of, with_stack};
-ghost use Rattle.standard.specs.Small.{cleared_at};
 ghost use Rattle.standard.specs.Stack.{named, is_cell, in_scope, bad_end_tag, closed_p, closed_cell, end_tag, ended};
 
 use crate::walk;
@@ -106,18 +105,6 @@ pub fn close_p_element(b: &mut Builder<'_>) -> Result<(), Refusal>
     }
 }
 
-// The list's last marker goes, and all entries after it.
-#[tactic(auto, using(places::proofs::Laws::place_lt, small::proofs::Laws::cleared_found, small::proofs::Laws::cleared_none))]
-fn cleared_to(list: &mut [u16], count: usize) -> usize
-    requires { count ≤ length list.old }
-    ensures { places_of list.new result ≡ cleared_at (place_of (places_of list.old count) 65535) (places_of list.old count) }
-{
-    match places::find(list, count, Node::MARKER) {
-        Some(i) => places::cut_at(list, count, i),
-        None => places::cut_at(list, count, 0),
-    }
-}
-
 /// Call 12, "close the cell": 13.2.6.4.15, for a caller that has `nodes` to read alone. The first `core.depth` places of `h` are the stack,
 /// the first `core.counts.list` of `list` the list of active formatting elements; what comes out is the record after the call.
 /// `NothingToDo` where no HTML td or th is in table scope.
@@ -137,7 +124,7 @@ pub fn close_the_cell_on(
     match cell_in_scope_on(nodes, h, depth) {
         Some(cell) => {
             let popped = core.with_depth(places::cut_at(h, depth, cell));
-            let count = cleared_to(list, popped.counts.list);
+            let count = small::cleared_to(list, popped.counts.list);
             Ok(popped.with_list(count))
         }
         None => Err(Refusal::NothingToDo),
