@@ -9,7 +9,9 @@ ghost use Rattle.state.specs.Full.{full, result_of};
 ghost use Rattle.state.specs.declared.Context.{Context};
 ghost use Rattle.state.specs.Open.{Open};
 ghost use Rattle.standard.specs.Pairs.{pairs_in};
-ghost use Rattle.standard.specs.Place.{text_before};
+ghost use Rattle.standard.specs.Place.{attached, text_before};
+ghost use Rattle.standard.specs.Place as place_def;
+ghost use Rattle.makers.specs.Make as make_def;
 ghost use Rattle.standard.specs.Insertion.{is_markable, bad_tag, element_in, pushed_if, usual_place, new_text, joined_text, text_at, element_room, comment_at, comment_place};
 ghost use Rattle.standard.specs.Insertion as def;
 
@@ -26,6 +28,42 @@ use standard::Place;
 use state::builder::Builder;
 use state::{Core, Stack};
 
+// Text joined to text node n.
+#[tactic(auto, unfolding(standard::specs::Insertion::joined_text, state::specs::Full::with_pieces, state::specs::Fields::set_pieces, state::specs::Full::with_nodes, state::specs::Fields::set_counts))]
+fn join_text(b: &mut Builder<'_>, n: Node, number: u16) -> Result<(), Refusal>
+    ensures loans { SameLoans b.old b.new }
+    ensures outcome { result_of (answer_number result) (full_of b.new) ≡ joined_text (full_of b.old) n.0 number }
+{
+    let i = room::next_piece(b)?;
+    makers::make::add_piece(b.nodes, b.pieces, n, i, number);
+    b.core = b.core.with_pieces(usize::from(i));
+    Ok(())
+}
+
+// Text as a new node at a place.
+#[tactic(auto, unfolding(standard::specs::Insertion::new_text, state::specs::Full::with_nodes, state::specs::Fields::set_nodes, state::specs::Fields::set_counts, state::specs::Full::with_pieces, state::specs::Fields::set_pieces))]
+fn new_text(b: &mut Builder<'_>, p: Place, number: u16) -> Result<(), Refusal>
+    ensures loans { SameLoans b.old b.new }
+    ensures outcome { result_of (answer_number result) (full_of b.new) ≡ new_text (full_of b.old) p number }
+{
+    let n = room::next_node(b)?;
+    let i = room::next_piece(b)?;
+    makers::make::make_text(b.nodes, b.pieces, n, i, number);
+    place::attach(b.nodes, p, n);
+    b.core = b
+        .core
+        .with_nodes(usize::from(n.0))
+        .with_pieces(usize::from(i));
+    Ok(())
+}
+
+// The text node directly before the place, 0 if there is none.
+fn text_before(b: &Builder<'_>, p: Place) -> u16
+    ensures { result ≡ place_def.text_before (full_of b.now).nodes.mem p }
+{
+    place::text_before(b.nodes, p)
+}
+
 // The place that a call without a target of its own takes.
 #[tactic(auto, using(location::proofs::Laws::usual_is))]
 fn usual_place_on(nodes: &[u8], h: &[u16], core: Core) -> Place
@@ -37,9 +75,9 @@ fn usual_place_on(nodes: &[u8], h: &[u16], core: Core) -> Place
     place::appropriate_place_on(nodes, h, core.depth, core.flags.foster, Node(h[i]))
 }
 
-// Text joined to text node n.
+// Text joined to text node n, of what is lent apart.
 #[tactic(auto, unfolding(standard::specs::Insertion::joined_text, state::specs::Full::with_pieces, state::specs::Fields::set_pieces, state::specs::Full::with_nodes, state::specs::Fields::set_counts))]
-fn join_text(
+fn join_text_on(
     core: Core,
     nodes: &mut [u8],
     pieces: &mut [u8],
@@ -53,9 +91,9 @@ fn join_text(
     Ok(core.with_pieces(usize::from(i)))
 }
 
-// Text as a new node at a place.
+// Text as a new node at a place, of what is lent apart.
 #[tactic(auto, unfolding(standard::specs::Insertion::new_text, state::specs::Full::with_nodes, state::specs::Fields::set_nodes, state::specs::Fields::set_counts, state::specs::Full::with_pieces, state::specs::Fields::set_pieces))]
-fn new_text(
+fn new_text_on(
     core: Core,
     nodes: &mut [u8],
     pieces: &mut [u8],
@@ -76,7 +114,7 @@ fn new_text(
 
 // Text at a place: it joins a text node directly before it, or is a new node.
 #[tactic(auto, unfolding(standard::specs::Insertion::text_at))]
-fn text_at(
+fn text_at_on(
     core: Core,
     nodes: &mut [u8],
     pieces: &mut [u8],
@@ -87,14 +125,14 @@ fn text_at(
 {
     let before = place::text_before(nodes, p);
     if before == Node::NONE {
-        return new_text(core, nodes, pieces, p, number);
+        return new_text_on(core, nodes, pieces, p, number);
     }
-    join_text(core, nodes, pieces, Node(before), number)
+    join_text_on(core, nodes, pieces, Node(before), number)
 }
 
 /// Call 2, text, for a caller that has the stack to read alone: 13.2.6.1, "insert a character", for a text number. The stack is the first
-/// `core.depth` places of `h`. Gives the core after the call. `NodesFull` where no node is free, `PiecesFull` where no piece is; then `nodes`
-/// and `pieces` are as they were.
+/// `core.depth` places of `h`. Text directly before the place gets a further piece; else a text node is made. Gives the core after the call.
+/// `NodesFull` where a node is to be made and none is free, `PiecesFull` where no piece is; then `nodes` and `pieces` are as they were.
 // `text` is no line over it: the check has no rule for a builder's stack that is passed to be read beside its nodes to be changed.
 #[tactic(auto, unfolding(standard::specs::Insertion::inserted_text))]
 pub fn text_on(
@@ -109,12 +147,12 @@ pub fn text_on(
     ensures { (l m q : List ℕ) (x : Option Context) → result_of (answer_number result) (full h.now (value_or result core) x nodes.new l m pieces.new q) ≡ def.inserted_text (full h.now core x nodes.old l m pieces.old q) number }
 {
     let p = usual_place_on(nodes, h, core);
-    text_at(core, nodes, pieces, p, number)
+    text_at_on(core, nodes, pieces, p, number)
 }
 
 /// Call 2, text: 13.2.6.1, "insert a character", for a text number. Text directly before the place gets a further piece; else a text node
 /// is made. `NodesFull` where no node is free, `PiecesFull` where no piece is.
-#[tactic(auto, unfolding(standard::specs::Insertion::inserted_text))]
+#[tactic(auto, unfolding(standard::specs::Insertion::inserted_text, standard::specs::Insertion::text_at))]
 pub fn text(b: &mut Builder<'_>, number: u16) -> Result<(), Refusal>
     requires some { 0 < (full_of b.old).stack.size }
     requires whole { Whole (full_of b.old).stack }
@@ -122,23 +160,44 @@ pub fn text(b: &mut Builder<'_>, number: u16) -> Result<(), Refusal>
     ensures outcome { result_of (answer_number result) (full_of b.new) ≡ def.inserted_text (full_of b.old) number }
 {
     let p = place::usual_place(b);
-    let core = b.core;
-    b.core = text_at(core, b.nodes, b.pieces, p, number)?;
-    Ok(())
+    let before = text_before(b, p);
+    if before == Node::NONE {
+        return new_text(b, p, number);
+    }
+    join_text(b, Node(before), number)
+}
+
+// A comment is made as node n, and put at a place.
+fn put_comment(nodes: &mut [u8], p: Place, n: Node, number: u16)
+    ensures { nodes.new ≡ attached (make_def.comment nodes.old n.0 number) p n.0 }
+{
+    makers::make::make_comment(nodes, n, number);
+    place::attach(nodes, p, n);
 }
 
 // A comment at a place.
 #[tactic(auto, unfolding(standard::specs::Insertion::comment_at, state::specs::Full::with_nodes, state::specs::Fields::set_nodes, state::specs::Fields::set_counts))]
-fn comment_at(core: Core, nodes: &mut [u8], p: Place, number: u16) -> Result<Core, Refusal>
+fn comment_at(b: &mut Builder<'_>, p: Place, number: u16) -> Result<(), Refusal>
+    ensures loans { SameLoans b.old b.new }
+    ensures outcome { result_of (answer_number result) (full_of b.new) ≡ comment_at (full_of b.old) p number }
+{
+    let n = room::next_node(b)?;
+    put_comment(b.nodes, p, n, number);
+    b.core = b.core.with_nodes(usize::from(n.0));
+    Ok(())
+}
+
+// A comment at a place, of what is lent apart.
+#[tactic(auto, unfolding(standard::specs::Insertion::comment_at, state::specs::Full::with_nodes, state::specs::Fields::set_nodes, state::specs::Fields::set_counts))]
+fn comment_at_on(core: Core, nodes: &mut [u8], p: Place, number: u16) -> Result<Core, Refusal>
     ensures { (s l m w q : List ℕ) (x : Option Context) → result_of (answer_number result) (full s (value_or result core) x nodes.new l m w q) ≡ comment_at (full s core x nodes.old l m w q) p number }
 {
     let n = room::next_node_on(nodes, core.counts.nodes)?;
-    makers::make::make_comment(nodes, n, number);
-    place::attach(nodes, p, n);
+    put_comment(nodes, p, n, number);
     Ok(core.with_nodes(usize::from(n.0)))
 }
 
-// The place that a number of call 3 stands for.
+// The place that a number of call 3 stands for, of what is lent apart.
 #[tactic(auto, unfolding(standard::specs::Insertion::comment_place))]
 fn comment_place_on(nodes: &[u8], h: &[u16], core: Core, at: u16) -> Result<Place, Refusal>
     requires some { 0 < core.depth }
@@ -149,21 +208,10 @@ fn comment_place_on(nodes: &[u8], h: &[u16], core: Core, at: u16) -> Result<Plac
 {
     match at {
         0 => Ok(usual_place_on(nodes, h, core)),
-        1 => Ok(Place::End(Node(Node::ROOT))),
-        2 => Ok(Place::End(Node(Node::DOCUMENT))),
+        1 => Ok(Place::End(Node::root())),
+        2 => Ok(Place::End(Node::document())),
         _ => Err(Refusal::Unknown),
     }
-}
-
-// The same of a builder.
-fn comment_place(b: &Builder<'_>, at: u16) -> Result<Place, Refusal>
-    requires some { 0 < (full_of b.now).stack.size }
-    requires whole { Whole (full_of b.now).stack }
-    ensures place { IfOk result (λ p. p ≡ comment_place (full_of b.now) at) }
-    ensures known { OnOk result (at ≤ 2) }
-    ensures unknown { IfErr result (λ e. (e ≡ Unknown) × (2 < at)) }
-{
-    comment_place_on(b.nodes, b.stack, b.core, at)
 }
 
 /// Call 3, comment, for a caller that has the stack to read alone: 13.2.6.1, "insert a comment", for a text number. The stack is the first
@@ -183,22 +231,28 @@ pub fn comment_on(
     ensures { (l m w q : List ℕ) (x : Option Context) → result_of (answer_number result) (full h.now (value_or result core) x nodes.new l m w q) ≡ def.inserted_comment (full h.now core x nodes.old l m w q) at number }
 {
     let p = comment_place_on(nodes, h, core, at)?;
-    comment_at(core, nodes, p, number)
+    comment_at_on(core, nodes, p, number)
 }
 
 /// Call 3, comment: 13.2.6.1, "insert a comment", for a text number. The place is the appropriate one (0), the end of the root (1) or the
 /// end of the document (2). `Unknown` for any other number, `NodesFull` where no node is free.
-#[tactic(auto, unfolding(standard::specs::Insertion::inserted_comment))]
+#[tactic(auto, unfolding(standard::specs::Insertion::inserted_comment, standard::specs::Insertion::comment_place))]
 pub fn comment(b: &mut Builder<'_>, at: u16, number: u16) -> Result<(), Refusal>
     requires some { 0 < (full_of b.old).stack.size }
     requires whole { Whole (full_of b.old).stack }
     ensures loans { SameLoans b.old b.new }
     ensures outcome { result_of (answer_number result) (full_of b.new) ≡ def.inserted_comment (full_of b.old) at number }
 {
-    let p = comment_place(b, at)?;
-    let core = b.core;
-    b.core = comment_at(core, b.nodes, p, number)?;
-    Ok(())
+    // Each place is told apart here, so that the root's and the document's last child are read without a test.
+    match at {
+        0 => {
+            let p = place::usual_place(b);
+            comment_at(b, p, number)
+        }
+        1 => comment_at(b, Place::End(Node(Node::ROOT)), number),
+        2 => comment_at(b, Place::End(Node(Node::DOCUMENT)), number),
+        _ => Err(Refusal::Unknown),
+    }
 }
 
 // The tag is refused as unknown.

@@ -27,8 +27,8 @@ pub fn marker(b: &mut Builder<'_>) -> Result<(), Refusal>
     Err(Refusal::PlacesFull)
 }
 
-/// The same of a list that is lent alone, of which the first `count` places are in use: its last marker goes with all entries after it, or
-/// all entries where there is no marker. The new count.
+/// A list that is lent alone, of which the first `count` places are in use, is cleared up to its last marker: the marker goes with all entries
+/// after it, or all entries where there is none. The new count. 13.2.4.3, "clear the list of active formatting elements up to the last marker".
 pub fn cleared_to(list: &mut [u16], count: usize) -> usize
     requires { count ≤ length list.old }
     ensures { places_of list.new result ≡ cleared_at (place_of (places_of list.old count) 65535) (places_of list.old count) }
