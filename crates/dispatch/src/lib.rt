@@ -6,12 +6,33 @@ ghost use Rattle.state.specs.Builder.{SameLoans, full_of};
 ghost use Rattle.state.specs.Full.{result_of};
 ghost use Rattle.state.specs.Ready.{Ready};
 ghost use Rattle.standard.specs.Step.{step};
+ghost use Rattle.standard.specs.Insertion.{inserted_element};
+ghost use Rattle.standard.specs.Formatting.{created};
+ghost use Rattle.state.specs.Open.{Open};
 
 use records::Record;
 use records::call::Call;
 use records::refusal::Refusal;
 use stacks::{close, implied};
 use state::builder::Builder;
+
+// Call 1. Not in the arm of `call`: the value that holds its attribute pairs would be cleared there at each record, whatever that asks for.
+fn element(b: &mut Builder<'_>, input: &[u8], r: Record) -> Result<(), Refusal>
+    requires { Open (full_of b.old) }
+    ensures loans { SameLoans b.old b.new }
+    ensures outcome { result_of (answer_number result) (full_of b.new) ≡ inserted_element input.now (full_of b.old) r.a r.b r.c r.from r.count }
+{
+    insertion::element(b, r.a, r.b, r.c, r.attributes(input))
+}
+
+// Call 4, as call 1.
+fn create(b: &mut Builder<'_>, input: &[u8], r: Record) -> Result<(), Refusal>
+    requires { Ready (full_of b.old) }
+    ensures loans { SameLoans b.old b.new }
+    ensures outcome { result_of (answer_number result) (full_of b.new) ≡ created input.now (full_of b.old) r.a r.from r.count }
+{
+    formatting::create_formatting_element_for(b, r.a, r.attributes(input))
+}
 
 /// The call that a record asks for: `input` holds the record's attribute pairs. `Unknown` for a number that no call has, and else what the call is
 /// refused with; a refused call changes nothing.
@@ -20,12 +41,11 @@ pub fn call(b: &mut Builder<'_>, input: &[u8], r: Record) -> Result<(), Refusal>
     ensures loans { SameLoans b.old b.new }
     ensures outcome { result_of (answer_number result) (full_of b.new) ≡ step input.now r (full_of b.old) }
 {
-    let pairs = r.attributes(input);
     match Call::try_from(r.call)? {
-        Call::Element => insertion::element(b, r.a, r.b, r.c, pairs),
+        Call::Element => element(b, input, r),
         Call::Text => insertion::text(b, r.a),
         Call::Comment => insertion::comment(b, r.a, r.b),
-        Call::CreateFormatting => formatting::create_formatting_element_for(b, r.a, pairs),
+        Call::CreateFormatting => create(b, input, r),
         Call::Marker => small::marker(b),
         Call::ClearToMarker => {
             small::clear(b);

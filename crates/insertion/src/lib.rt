@@ -28,18 +28,6 @@ use standard::Place;
 use state::builder::Builder;
 use state::{Core, Stack};
 
-// Text joined to text node n.
-#[tactic(auto, unfolding(standard::specs::Insertion::joined_text, state::specs::Full::with_pieces, state::specs::Fields::set_pieces, state::specs::Full::with_nodes, state::specs::Fields::set_counts))]
-fn join_text(b: &mut Builder<'_>, n: Node, number: u16) -> Result<(), Refusal>
-    ensures loans { SameLoans b.old b.new }
-    ensures outcome { result_of (answer_number result) (full_of b.new) ≡ joined_text (full_of b.old) n.0 number }
-{
-    let i = room::next_piece(b)?;
-    makers::make::add_piece(b.nodes, b.pieces, n, i, number);
-    b.core = b.core.with_pieces(usize::from(i));
-    Ok(())
-}
-
 // Text as a new node at a place.
 #[tactic(auto, unfolding(standard::specs::Insertion::new_text, state::specs::Full::with_nodes, state::specs::Fields::set_nodes, state::specs::Fields::set_counts, state::specs::Full::with_pieces, state::specs::Fields::set_pieces))]
 fn new_text(b: &mut Builder<'_>, p: Place, number: u16) -> Result<(), Refusal>
@@ -152,7 +140,7 @@ pub fn text_on(
 
 /// Call 2, text: 13.2.6.1, "insert a character", for a text number. Text directly before the place gets a further piece; else a text node
 /// is made. `NodesFull` where no node is free, `PiecesFull` where no piece is.
-#[tactic(auto, unfolding(standard::specs::Insertion::inserted_text, standard::specs::Insertion::text_at))]
+#[tactic(auto, unfolding(standard::specs::Insertion::inserted_text, standard::specs::Insertion::text_at, standard::specs::Insertion::joined_text, state::specs::Full::with_pieces, state::specs::Fields::set_pieces, state::specs::Full::with_nodes, state::specs::Fields::set_counts))]
 pub fn text(b: &mut Builder<'_>, number: u16) -> Result<(), Refusal>
     requires some { 0 < (full_of b.old).stack.size }
     requires whole { Whole (full_of b.old).stack }
@@ -164,7 +152,11 @@ pub fn text(b: &mut Builder<'_>, number: u16) -> Result<(), Refusal>
     if before == Node::NONE {
         return new_text(b, p, number);
     }
-    join_text(b, Node(before), number)
+    // Joined here: the result of a function that is refused for this alone would be tested again after each record.
+    let i = room::next_piece(b)?;
+    makers::make::add_piece(b.nodes, b.pieces, Node(before), i, number);
+    b.core = b.core.with_pieces(usize::from(i));
+    Ok(())
 }
 
 // A comment is made as node n, and put at a place.
@@ -173,18 +165,6 @@ fn put_comment(nodes: &mut [u8], p: Place, n: Node, number: u16)
 {
     makers::make::make_comment(nodes, n, number);
     place::attach(nodes, p, n);
-}
-
-// A comment at a place.
-#[tactic(auto, unfolding(standard::specs::Insertion::comment_at, state::specs::Full::with_nodes, state::specs::Fields::set_nodes, state::specs::Fields::set_counts))]
-fn comment_at(b: &mut Builder<'_>, p: Place, number: u16) -> Result<(), Refusal>
-    ensures loans { SameLoans b.old b.new }
-    ensures outcome { result_of (answer_number result) (full_of b.new) ≡ comment_at (full_of b.old) p number }
-{
-    let n = room::next_node(b)?;
-    put_comment(b.nodes, p, n, number);
-    b.core = b.core.with_nodes(usize::from(n.0));
-    Ok(())
 }
 
 // A comment at a place, of what is lent apart.
@@ -236,23 +216,29 @@ pub fn comment_on(
 
 /// Call 3, comment: 13.2.6.1, "insert a comment", for a text number. The place is the appropriate one (0), the end of the root (1) or the
 /// end of the document (2). `Unknown` for any other number, `NodesFull` where no node is free.
-#[tactic(auto, unfolding(standard::specs::Insertion::inserted_comment, standard::specs::Insertion::comment_place))]
+#[tactic(auto, unfolding(standard::specs::Insertion::inserted_comment, standard::specs::Insertion::comment_place, standard::specs::Insertion::comment_at, state::specs::Full::with_nodes, state::specs::Fields::set_nodes, state::specs::Fields::set_counts))]
 pub fn comment(b: &mut Builder<'_>, at: u16, number: u16) -> Result<(), Refusal>
     requires some { 0 < (full_of b.old).stack.size }
     requires whole { Whole (full_of b.old).stack }
     ensures loans { SameLoans b.old b.new }
     ensures outcome { result_of (answer_number result) (full_of b.new) ≡ def.inserted_comment (full_of b.old) at number }
 {
-    // Each place is told apart here, so that the root's and the document's last child are read without a test.
+    if 2 < at {
+        return Err(Refusal::Unknown);
+    }
+    // Refused here, and not in a function of its own, for the reason that `text` has. Each place is told apart, so that the numbers of the root
+    // and of the document are constants.
+    let n = room::next_node(b)?;
     match at {
         0 => {
             let p = place::usual_place(b);
-            comment_at(b, p, number)
+            put_comment(b.nodes, p, n, number);
         }
-        1 => comment_at(b, Place::End(Node(Node::ROOT)), number),
-        2 => comment_at(b, Place::End(Node(Node::DOCUMENT)), number),
-        _ => Err(Refusal::Unknown),
+        1 => put_comment(b.nodes, Place::End(Node(Node::ROOT)), n, number),
+        _ => put_comment(b.nodes, Place::End(Node(Node::DOCUMENT)), n, number),
     }
+    b.core = b.core.with_nodes(usize::from(n.0));
+    Ok(())
 }
 
 // The tag is refused as unknown.

@@ -25,42 +25,31 @@ pub fn free_pairs(b: &Builder<'_>) -> usize
 }
 
 // The next node, when the first `used` of `nodes` are used.
-#[tactic(auto, using(lent::proofs::Lowest::fresh_is, crate::proofs::Laws::nodes_left))]
 pub(crate) fn next_node_on(nodes: &[u8], used: usize) -> Result<Node, Refusal>
     ensures number { IfOk result (λ n. n.0 ≡ used + 1) }
     ensures free { OnOk result (def.free_nodes nodes.now used ≢ 0) }
     ensures full { IfErr result (λ e. (e ≡ refusals.NodesFull) × (def.free_nodes nodes.now used ≡ 0)) }
 {
-    if lent::room::free_nodes(nodes, used) == 0 {
-        return Err(Refusal::NodesFull);
-    }
-    Ok(Node(lent::room::next(used)))
+    let n = lent::room::next_node(nodes, used).ok_or(Refusal::NodesFull)?;
+    Ok(Node(n))
 }
 
 /// The next node: the lowest number that is free. `NodesFull` where none is.
-#[tactic(auto, using(lent::proofs::Lowest::fresh_is))]
 pub fn next_node(b: &Builder<'_>) -> Result<Node, Refusal>
     ensures number { IfOk result (λ n. n.0 ≡ (full_of b.now).nodes.used + 1) }
     ensures free { OnOk result (def.free_nodes (full_of b.now).nodes.mem (full_of b.now).nodes.used ≢ 0) }
     ensures full { IfErr result (λ e. (e ≡ refusals.NodesFull) × (def.free_nodes (full_of b.now).nodes.mem (full_of b.now).nodes.used ≡ 0)) }
 {
-    if free_nodes(b) == 0 {
-        return Err(Refusal::NodesFull);
-    }
-    Ok(Node(lent::room::next(b.core.counts.nodes)))
+    next_node_on(b.nodes, b.core.counts.nodes)
 }
 
 // The next text piece, when the first `used` of `pieces` are used.
-#[tactic(auto, using(lent::proofs::Lowest::fresh_is, crate::proofs::Laws::pieces_left))]
 pub(crate) fn next_piece_on(pieces: &[u8], used: usize) -> Result<u16, Refusal>
     ensures number { IfOk result (λ i. i ≡ used + 1) }
     ensures free { OnOk result (def.free_pieces pieces.now used ≢ 0) }
     ensures full { IfErr result (λ e. (e ≡ refusals.PiecesFull) × (def.free_pieces pieces.now used ≡ 0)) }
 {
-    if lent::room::free_pieces(pieces, used) == 0 {
-        return Err(Refusal::PiecesFull);
-    }
-    Ok(lent::room::next(used))
+    lent::room::next_piece(pieces, used).ok_or(Refusal::PiecesFull)
 }
 
 /// The next text piece: the lowest number that is free. `PiecesFull` where none is.

@@ -70,6 +70,9 @@ impl From<Call> for u16 {
 // How many numbers each call takes, by its number. A table: a match becomes a jump for each record, which is slower.
 const COUNTS: [usize; 19] = [0, 3, 1, 2, 1, 0, 0, 0, 1, 0, 1, 0, 0, 2, 0, 1, 1, 0, 1];
 
+// 1 where attribute pairs follow them, with their count before them: a table too.
+const PAIRS: [usize; 19] = [0, 1, 0, 0, 1, 0, 0, 0, 0, 0, 0, 0, 0, 0, 0, 0, 0, 0, 0];
+
 impl Call {
     /// How many numbers the call takes, 3 at most.
     #[tactic(auto, using(crate::proofs::Calls::call_low), unfolding(crate::specs::Record::count_of))]
@@ -80,10 +83,10 @@ impl Call {
     }
 
     /// Whether attribute pairs follow them, with their count before them.
-    #[tactic(auto, unfolding(crate::specs::Record::pairs_of))]
+    #[tactic(auto, using(crate::proofs::Calls::call_low), unfolding(crate::specs::Record::pairs_of))]
     pub fn has_pairs(self) -> bool
         ensures { result ≡ nat_lt 0 (pairs_of (call_number self)) }
     {
-        matches!(self, Call::Element | Call::CreateFormatting)
+        0 < PAIRS[usize::from(u16::from(self))]
     }
 }

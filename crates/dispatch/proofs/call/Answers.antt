@@ -1,4 +1,4 @@
-use Rattle.std.proofs.Common.{ap, ◌∙◌, rules}
+use Rattle.std.proofs.Common.{ap, refl, ◌∙◌, rules}
 use Rattle.records.specs.Call.{call_number}
 use Rattle.dispatch.proofs.Numbers as number
 use Rattle.dispatch.proofs.ReadyLaws as ready
@@ -15,8 +15,7 @@ returns-in_err-try_from-clause-outcome c = number.step_unknown _ _ _ c.in_err-tr
 
 pub returns-in-Element-clause-outcome : goal.returns-in-Element-clause-outcome
 returns-in-Element-clause-outcome c =
-    let pairs = c.attributes-pairs.ensures in
-    number.step_1 _ _ _ pairs.input pairs.from pairs.count (c.in_ok-try_from.ensures ∙ ap call_number c.in-Element.is) c.element.ensures.outcome
+    number.step_1 _ _ _ refl refl refl (c.in_ok-try_from.ensures ∙ ap call_number c.in-Element.is) c.element.ensures.outcome
 
 pub returns-in-Text-clause-outcome : goal.returns-in-Text-clause-outcome
 returns-in-Text-clause-outcome c = number.step_2 _ _ _ (c.in_ok-try_from.ensures ∙ ap call_number c.in-Text.is) c.text.ensures.outcome
@@ -26,8 +25,7 @@ returns-in-Comment-clause-outcome c = number.step_3 _ _ _ (c.in_ok-try_from.ensu
 
 pub returns-in-CreateFormatting-clause-outcome : goal.returns-in-CreateFormatting-clause-outcome
 returns-in-CreateFormatting-clause-outcome c =
-    let pairs = c.attributes-pairs.ensures in
-    number.step_4 _ _ _ pairs.input pairs.from pairs.count (c.in_ok-try_from.ensures ∙ ap call_number c.in-CreateFormatting.is) c.create_formatting_element_for.ensures.outcome
+    number.step_4 _ _ _ refl refl refl (c.in_ok-try_from.ensures ∙ ap call_number c.in-CreateFormatting.is) c.create.ensures.outcome
 
 pub returns-in-Marker-clause-outcome : goal.returns-in-Marker-clause-outcome
 returns-in-Marker-clause-outcome c = number.step_5 _ _ _ (c.in_ok-try_from.ensures ∙ ap call_number c.in-Marker.is) c.marker.ensures.outcome
